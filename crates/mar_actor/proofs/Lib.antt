@@ -7,3 +7,4 @@ pub mod Kept
 pub mod Noted
 pub mod Taken
 pub mod Stepped
+pub mod Filled

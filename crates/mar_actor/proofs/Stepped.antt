@@ -9,6 +9,7 @@ use Rattle.mar_model.specs.Held.{Ending, Held, Remembered, Seen}
 use Rattle.mar_model.specs.Moves.{FindsInCache, LivesOnGiving, syncs_at_most}
 use Rattle.mar_model.specs.Plans.{RunsPlan}
 use Rattle.mar_model.specs.Promise.{Heard, KeepsPromise, none_waiting}
+use Rattle.mar_model.specs.Requests.{may_repair}
 use Rattle.mar_model.specs.Scene.{Scene, Standing, scene, window_of}
 use Rattle.mar_model.specs.Told.{TellsInOrder, tips_of}
 use Rattle.mar_parts.specs.Certified.{Certified}
@@ -28,7 +29,7 @@ pub record Stepped {P E : Type 0} (epochs : Epochs) (inner : List ℕ → List �
   pub promise : KeepsPromise (e ∷ []) epochs inner old buffer before after result
   pub lives : LivesOnGiving (syncs_at_most e) old result
   pub by_value : FindsInCache e old → EndsWhereDue (due_fault inner old buffer e) result
-  pub tells : FindsInCache e old → TellsInOrder before.reports (tips_of inner old buffer e) after.reports result
+  pub tells : FindsInCache e old → TellsInOrder (may_repair e) before.reports (tips_of inner old buffer e) after.reports result
 
 pub stepped : {P E : Type 0} (epochs : Epochs) (inner : List ℕ → List ℕ) → IsPartition epochs → (buffer : List Block) (old : Seen P E) (before after : Heard) → AreLawful old.held → (e : Event) → IsTaken e → (result : Result (Seen P E) Ending)
     → RunsPlan inner buffer e (scene_in epochs old before) after result → IfOk result (λ n. (n.life.provider ≡ old.life.provider) × (n.life.epocher ≡ old.life.epocher)) → Stepped epochs inner buffer old before after e result

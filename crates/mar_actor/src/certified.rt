@@ -8,8 +8,7 @@ ghost use Rattle.mar_parts.specs.Certified.{is_known};
 ghost use Rattle.mar_actor.specs.Known.{TakesNote, least_above};
 
 use mar_block::{Buffer, Variant};
-use mar_inbox::block_at_hand;
-use mar_model::{Fault, Holds};
+use mar_model::{Fault, Holds, block_at_hand};
 use mar_parts::Certified;
 use mar_types::{Height, Named};
 use std::alloc::AllocError;

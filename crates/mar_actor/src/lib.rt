@@ -47,13 +47,19 @@
 //! - `max_pending_acks`: 1 hands over one block at a time. More hides the time that the application takes for a block, at
 //!   the price of that many repeats after a crash, and of twice as many blocks in memory.
 //! - `view_retention`: how many views below the round that was witnessed last the cache keeps as a newer one is.
-//! - `mailbox_size`, `max_repair`, `block_codec_config`: change nothing yet.
+//! - `max_repair`: how many of the lowest missing heights are asked for at once, at least 1.
+//! - `mailbox_size`, `block_codec_config`: change nothing yet.
 //!
 //! # Storage and repair
 //!
 //! There are four stores: blocks, finalizations, metadata, and a cache of what isn't final. An opening reads them in that
 //! order, stores the genesis where it is missing, and refuses stores that don't fit together (`Unbacked`, `Corrupt`). A
-//! finalized block that isn't at hand is asked for by its commitment; blocks below it are not asked for yet.
+//! finalized block that isn't at hand is asked for by its commitment.
+//!
+//! Gaps above the processed height are filled at a start, and once a reported finalization is stored above that height: the
+//! parent that the block right above the lowest gap names is stored from the buffer or the cache, with its finalization where
+//! that is cached, and so on down. The first one that isn't at hand is asked for by commitment and height, and then at most
+//! `max_repair` of the lowest missing heights. A start makes durable what it filled in before it hands blocks over.
 //!
 //! An opening takes the memory that the stores stand in while the life runs, and moving a node moves none of them.
 //!
@@ -69,6 +75,7 @@ mod caching;
 mod certified;
 mod dispatch;
 mod event;
+mod filling;
 mod life;
 mod messages;
 mod node;
@@ -82,6 +89,7 @@ mod shown;
 mod start;
 mod sync;
 mod take;
+mod telling;
 
 pub use event::Event;
 pub use mar_life::{Ruins, Stores};

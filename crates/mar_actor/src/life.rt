@@ -79,4 +79,11 @@ impl Window {
     {
         self.limits.view_retention.get()
     }
+
+    /// How many missing heights are asked for at once.
+    pub(crate) fn max_repair(&self) -> usize
+        ensures { result ≡ self.now.sizes.max_repair }
+    {
+        self.limits.max_repair
+    }
 }

@@ -9,6 +9,7 @@ ghost use Rattle.mar_model.specs.Acts.{AreLawful};
 ghost use Rattle.mar_model.specs.Event.{is_query, sync_finished};
 ghost use Rattle.mar_model.specs.Held.{AreCached, ArePassed, AreWritten, IsEndedBy, remains_of, with_armed};
 ghost use Rattle.mar_model.specs.Plans.{RunsPlan};
+ghost use Rattle.mar_model.specs.Requests.{may_repair};
 ghost use Rattle.mar_model.specs.Scene.{Standing, in_epochs, scene, window_of};
 ghost use Rattle.mar_model.specs.Moves.{FindsInCache, KeepsInCache, KeepsTakenUp, RunsOut, syncs_at_most};
 ghost use Rattle.mar_model.specs.OpenSyncs.{is_cache_sync};
@@ -69,16 +70,18 @@ impl<V: Variant, S: Holds<V>, P: Drop, E: Epocher> Model for Node<V, S, P, E> {
 impl<V: Variant, S: HoldsNotarizations<V>, P: Drop, E: Epocher> Node<V, S, P, E> {
     /// Takes one event, the first of a life being `Event::Start`. An end of the life says why and hands back what is left.
     /// On a lawful chain the step is a step of the node, or a cut; a second start in one life is promised nothing of the
-    /// node. No rule takes memory from `_alloc` yet: it is for those that wait for a block. The buffer keeps its blocks: of a
-    /// proposed and of a prepared one alone anything is sent, of a proposed one before it is kept.
+    /// node. The buffer keeps its blocks: of a proposed and of a prepared one alone anything is sent, of a proposed one before it
+    /// is kept. A start and a reported finalization fill gaps, for which `alloc` gives memory.
     ///
     /// The fault of a step is `StoreFault` only where that store has failed, `HeightLimit` where a finalized block stands
     /// at the last height and `AckDropped` where the lowest block that isn't acknowledged was dropped, each exactly where
     /// it is due unless a store or memory fails first, `TicketLimit` where no ticket of that kind is left, and `Memory`.
     /// What a step may store is small: at most 1,048,576 bytes each.
+    /// The application is told of the event's own tip first, at most one, then of the tips of blocks that are filled in,
+    /// by a start or a reported finalization alone, and then of the blocks that are handed over.
     pub fn step<B: Buffer<V>, R: Resolver<V::Commitment>, A: Reporter<V>>(
         self,
-        _alloc: Global,
+        alloc: Global,
         event: Event<V::Digest, V::Block, S::Notarization, S::Finalization>,
         answers: &mut AnswerTable<Value<V::Digest, V::Block, S::Finalization>>,
         buffer: &mut B,
@@ -119,7 +122,8 @@ impl<V: Variant, S: HoldsNotarizations<V>, P: Drop, E: Epocher> Node<V, S, P, E>
             → EndsWhereDue (due_fault V.inner self (B.blocks buffer.old)
             (event_of V.Digest.bytes V.plain S.Notarization.plain S.Finalization.plain event)) result }
         ensures tells { FindsInCache (event_of V.Digest.bytes V.plain S.Notarization.plain S.Finalization.plain event) self
-            → TellsInOrder (A.told application.old)
+            → TellsInOrder (may_repair (event_of V.Digest.bytes V.plain S.Notarization.plain S.Finalization.plain event))
+            (A.told application.old)
             (tips_of V.inner self (B.blocks buffer.old) (event_of V.Digest.bytes V.plain S.Notarization.plain S.Finalization.plain event))
             (A.told application.new) result }
         ensures tickets { IfOk result (λ n. n.life.next_ack ≤ self.life.next_ack + self.life.sizes.window) }
@@ -144,6 +148,7 @@ impl<V: Variant, S: HoldsNotarizations<V>, P: Drop, E: Epocher> Node<V, S, P, E>
         } = self;
         let tip = life.tip();
         match take::<V, S, P, E, B, R, A>(
+            alloc,
             &mut stores,
             &mut life,
             &mut certified,

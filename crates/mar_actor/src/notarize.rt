@@ -15,8 +15,7 @@ ghost use Rattle.mar_model.specs.Views.{fault_of};
 
 use mar_block::{Buffer, Variant};
 use mar_cert::{AsFinalization, CommitsTo};
-use mar_inbox::block_at_hand;
-use mar_model::{Fault, Holds, HoldsNotarizations};
+use mar_model::{Fault, Holds, HoldsNotarizations, block_at_hand};
 use mar_rules::{keep_notarization, keep_notarized};
 use mar_types::Round;
 

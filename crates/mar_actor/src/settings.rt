@@ -51,7 +51,7 @@ pub struct Config<P, E, B, C> {
     pub view_retention: ViewDelta,
     /// How the bytes of a block are read. No bytes come from peers yet.
     pub block_codec_config: C,
-    /// How many missing heights are asked for at once; at least 1. None is asked for by its height yet.
+    /// How many missing heights are asked for at once; at least 1.
     pub max_repair: usize,
     /// How many blocks may be handed over and not yet acknowledged; at least 1.
     pub max_pending_acks: usize,

@@ -38,9 +38,11 @@ use mar_key::Resolver;
 use mar_model::{Fault, HoldsNotarizations};
 use mar_parts::{Certified, Mark};
 use mar_types::Epocher;
+use std::alloc::Global;
 
 /// Takes one event, in place.
 pub(crate) fn take<V, S, P, E, B, R, A>(
+    alloc: Global,
     stores: &mut S,
     life: &mut Life<P, E>,
     certified: &mut Certified<V::Commitment>,
@@ -92,9 +94,17 @@ where
         → (certified.new ≡ certified.old) × (life.new ≡ life.old) }
 {
     match event {
-        Event::Start => start::<V, S, A>(stores, &mut life.window, application),
+        Event::Start => start::<V, S, B, R, A>(
+            alloc,
+            stores,
+            &mut life.window,
+            &*buffer,
+            resolver,
+            application,
+        ),
         Event::Message(message) => match told_by(message) {
             Told::Reported(finalization) => report_finalization::<V, S, B, R, A>(
+                alloc,
                 stores,
                 &mut life.window,
                 &finalization,

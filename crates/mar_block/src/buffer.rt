@@ -1,36 +1,22 @@
 //! Blocks that were received and are not yet stored.
-ghost use Rattle.std.specs.Prelude.{◌≡◌, ℕ, Bool, false, List, [], ◌∷◌, IfOk, IfSome, IsOk, None};
-ghost use Rattle.std.specs.Prelude.{OnErr, OnOk, Option, find, bytes_eq, is_some, option_map};
-ghost use Rattle.mar_cert.specs.Block.{Block as PlainBlock};
+ghost use Rattle.std.specs.Prelude.{◌≡◌, Bool, false, List, [], ◌∷◌, IfOk, IfSome, IsOk, None};
+ghost use Rattle.std.specs.Prelude.{OnErr, OnOk, Option, is_some, option_map};
 ghost use Rattle.mar_block.specs.Recipients.{named};
 ghost use Rattle.mar_block.specs.Sent.{Sending, Sends};
 
-use crate::Variant;
 use crate::recipients::Recipients;
+use crate::{Finds, Variant};
 use mar_key::Subscription;
 use mar_types::{Participant, Round};
 use std::alloc::AllocError;
 
 /// Finds blocks that were received, tells of those that come, and sends blocks.
-pub trait Buffer<V: Variant> {
-    /// The blocks that it finds, as they came.
-    ghost blocks: { Self → List PlainBlock };
-
+pub trait Buffer<V: Variant>: Finds<V> {
     /// It can tell of the blocks that come.
     ghost notifies: { Self → Bool };
 
     /// What it was handed to send, in order, where it tells that.
     ghost sent: { Self → Option (List Sending) };
-
-    /// The first block of that digest.
-    fn find_by_digest(&self, digest: &V::Digest) -> Result<Option<V::Block>, AllocError>
-        ensures { IfOk result (λ o. option_map V.plain o
-            ≡ find (λ b. bytes_eq b.digest (V.Digest.bytes digest.now)) (blocks self.now)) };
-
-    /// The first block of that commitment.
-    fn find_by_commitment(&self, commitment: &V::Commitment) -> Result<Option<V::Block>, AllocError>
-        ensures { IfOk result (λ o. option_map V.plain o
-            ≡ find (λ b. bytes_eq b.commitment (V.Commitment.bytes commitment.now)) (blocks self.now)) };
 
     /// A subscription to the block of that digest, or `None` where the buffer can't tell of blocks that come.
     fn subscribe_by_digest(&self, digest: &V::Digest) -> Option<Subscription<V::Digest>>
@@ -55,7 +41,7 @@ pub trait Buffer<V: Variant> {
         ensures ok { OnOk result (Sends (sent self.old)
             (record { round = round; block = V.plain block; peers = named recipients } ∷ []) (sent self.new)) }
         ensures err { OnErr result (Sends (sent self.old) [] (sent self.new)) }
-        ensures same { blocks self.new ≡ blocks self.old }
+        ensures same { Self.blocks self.new ≡ Self.blocks self.old }
         ensures notifies { notifies self.new ≡ notifies self.old };
 }
 
@@ -63,12 +49,8 @@ pub trait Buffer<V: Variant> {
 #[derive(Clone, Copy, Debug, PartialEq, Eq)]
 pub struct NoBuffer;
 
-impl<V: Variant> Buffer<V> for NoBuffer {
+impl<V: Variant> Finds<V> for NoBuffer {
     ghost blocks = { λ _. [] };
-
-    ghost notifies = { λ _. false };
-
-    ghost sent = { λ _. None };
 
     fn find_by_digest(&self, _digest: &V::Digest) -> Result<Option<V::Block>, AllocError>
         ensures found { IfOk result (λ o. option_map V.plain o ≡ None) }
@@ -86,6 +68,12 @@ impl<V: Variant> Buffer<V> for NoBuffer {
     {
         Ok(None)
     }
+}
+
+impl<V: Variant> Buffer<V> for NoBuffer {
+    ghost notifies = { λ _. false };
+
+    ghost sent = { λ _. None };
 
     fn subscribe_by_digest(&self, _digest: &V::Digest) -> Option<Subscription<V::Digest>> {
         None

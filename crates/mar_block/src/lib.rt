@@ -38,7 +38,7 @@ pub use expected::ExpectedCommitment;
 pub use laws::{empty_blocks_compared, mock_blocks_compared, sent_compared};
 pub use lines::lines_are_parents;
 pub use linked::Linked;
-pub use mar_cert::Variant;
+pub use mar_cert::{Finds, Variant};
 pub use mar_key::Subscription;
 pub use mem_buffer::MemBuffer;
 pub use mem_provider::{MemProvider, Row};

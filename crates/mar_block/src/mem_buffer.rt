@@ -5,7 +5,7 @@ ghost use Rattle.mar_block.specs.Sent.{sending};
 
 use crate::places::BlockPlaces;
 use crate::recipients::{Recipients, Sent};
-use crate::{Buffer, Variant};
+use crate::{Buffer, Finds, Variant};
 use mar_key::Subscription;
 use mar_types::{Digest, Participant, Round};
 use std::alloc::{AllocError, Global};
@@ -110,16 +110,12 @@ where
     }
 }
 
-impl<V: Variant> Buffer<V> for MemBuffer<V>
+impl<V: Variant> Finds<V> for MemBuffer<V>
 where
     V::Digest: Digest,
     V::Commitment: Digest,
 {
     ghost blocks = { λ b. b.blocks };
-
-    ghost notifies = { λ b. b.is_open };
-
-    ghost sent = { λ b. Some b.sent };
 
     fn find_by_digest(&self, digest: &V::Digest) -> Result<Option<V::Block>, AllocError> {
         block_at::<V>(&self.blocks, self.places.digests.place_of(digest))
@@ -131,6 +127,16 @@ where
     ) -> Result<Option<V::Block>, AllocError> {
         block_at::<V>(&self.blocks, self.places.commitments.place_of(commitment))
     }
+}
+
+impl<V: Variant> Buffer<V> for MemBuffer<V>
+where
+    V::Digest: Digest,
+    V::Commitment: Digest,
+{
+    ghost notifies = { λ b. b.is_open };
+
+    ghost sent = { λ b. Some b.sent };
 
     fn subscribe_by_digest(&self, digest: &V::Digest) -> Option<Subscription<V::Digest>> {
         if self.is_open {

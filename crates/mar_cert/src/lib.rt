@@ -2,6 +2,7 @@
 #![tactic(auto)]
 
 mod finalization;
+mod finds;
 mod laws;
 mod mock;
 mod mock_scheme;
@@ -13,6 +14,7 @@ mod subject;
 mod variant;
 
 pub use finalization::{AsFinalization, CommitsTo, Finalization, Proposal};
+pub use finds::Finds;
 pub use laws::{certified_compared, mocks_compared};
 pub use mock::{MockCertificate, MockFinalization, MockNotarization, mock_finalizations};
 pub use mock_scheme::{MockProvider, MockScheme, mock_verdicts};

@@ -17,14 +17,13 @@ ghost use Rattle.mar_model.specs.Messages.{of_height};
 ghost use Rattle.mar_model.specs.Views.{entry_of, fault_of};
 
 use crate::answers::AnswerTable;
-use crate::at_hand::block_at_hand;
 use crate::identifier::Identifier;
 use crate::query::Query;
 use crate::value::Value;
 use mar_block::Buffer;
 use mar_cert::{AsFinalization, CommitsTo, Variant};
 use mar_key::Processed;
-use mar_model::{BlockName, Fault, Holds, newest_certificate};
+use mar_model::{BlockName, Fault, Holds, block_at_hand, newest_certificate};
 use mar_types::Height;
 
 /// Answers a query from what stands.

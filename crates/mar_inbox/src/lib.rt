@@ -4,7 +4,6 @@
 
 mod answering;
 mod answers;
-mod at_hand;
 mod backlog;
 mod dropping;
 mod feedback;
@@ -19,7 +18,6 @@ mod value;
 
 pub use answering::answer;
 pub use answers::{Answer, AnswerTable, Answered, Standing};
-pub use at_hand::block_at_hand;
 pub use backlog::Backlog;
 pub use feedback::Feedback;
 pub use identifier::Identifier;

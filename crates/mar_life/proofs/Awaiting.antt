@@ -109,9 +109,9 @@ module _ {T : Type 0} (ticket_of : Pooled → ℕ) (kept : Kept (At T)) (number 
   pub AwaitsSyncs-same : (new : Kept (At T)) (new_number : ℕ) (new_covers : ℕ → List (At T)) → new ≡ kept → number ≤ new_number → KeepsCovers number covers new_covers → new_covers last_number ≡ new.held → AwaitsSyncs ticket_of new new_number new_covers pool
   AwaitsSyncs-same new new_number new_covers same more keeps last = AwaitsSyncs-surer new new_number new_covers (ap (λ k. k.held) same) (λ h v is. subst (λ k. value_at k.sure h ≡ Some v) (sym same) is) more keeps last
 
-  -- all that is held is sure
-  pub AwaitsSyncs-sure : (new : Kept (At T)) (new_number : ℕ) (new_covers : ℕ → List (At T)) → new.sure ≡ new.held → number ≤ new_number → AwaitsSyncs ticket_of new new_number new_covers pool
-  AwaitsSyncs-sure new new_number new_covers sure more = record {
+  -- all that is held is sure, whatever writes wait; the same syncs are open
+  pub AwaitsSyncs-sure : (new : Kept (At T)) (new_number : ℕ) (new_covers : ℕ → List (At T)) (covered : ℕ) (uncovered : List ℕ) → new.sure ≡ new.held → number ≤ new_number → AwaitsSyncs ticket_of new new_number new_covers (record pool { covered = covered; uncovered = uncovered })
+  AwaitsSyncs-sure new new_number new_covers covered uncovered sure more = record {
     written = λ h has. inl (same_heights new.held new.sure sure h has);
     given = λ p has. let was = waits.given p has in (omega (arith, was.0, more), was.1);
     covered = λ p in_pool h has. inl (same_heights new.held new.sure sure h has);

@@ -86,6 +86,14 @@ module _ {S W R X : Type 0} (stored : S → Kept (At Block)) (left : W → Left 
       (λ none. rw (none.0, none.2, none.3) (Loses-nothing start all _ grew (ticket_limit sync_kind) tt))
       how)
 
+  -- both archives were synced
+  pub sync_goes_on : {T C : Type 0} (fault : C → Fault) (r : Result T C) → OnOk r (SurerIn stored left watch watch_left old new) → OnOk r (SurerIn stored_2 left_2 watch_2 watch_left_2 old_2 new_2)
+      → IfErr r (λ e. FailsBoth stored left watch watch_left stored_2 left_2 watch_2 watch_left_2 old new old_2 new_2 (fault e))
+      → GoesOn fault (life (kept_at stored left old) (watch_at watch watch_left old) (kept_at stored_2 left_2 old_2) (watch_at watch_2 watch_left_2 old_2) processed cutoff witnessed pairs waits lowest lowests writes meta cache was) nothing_written (life (kept_at stored left new) (watch_at watch watch_left new) (kept_at stored_2 left_2 new_2) (watch_at watch_2 watch_left_2 new_2) processed cutoff witnessed pairs waits lowest lowests later meta cache is) r
+  sync_goes_on fault r first second failed start all grew within = by_answer r (both_done _ _ r first second) failed
+      (λ ok. both_surer start all grew ok.0 ok.1)
+      (λ e fails. both_lose stored left watch watch_left stored_2 left_2 watch_2 watch_left_2 old new old_2 new_2 (fault e) fails start all grew)
+
   -- a sync was finished, or it was none that is open
   pub finish_goes_on : {C : Type 0} (N : Type 0) (fault : C → Fault) (r : Result Bool C) → IfOk r (λ b. b ≡ true → SurerIn stored left watch watch_left old new) → IfOk r (λ b. b ≡ true → SurerIn stored_2 left_2 watch_2 watch_left_2 old_2 new_2)
       → IfOk r (λ b. b ≡ false → (new ≡ old) × (new_2 ≡ old_2) × N)

@@ -21,7 +21,7 @@ use Rattle.mar_model.specs.Metadata.{Pair}
 use Rattle.mar_model.specs.Moves.{with_cache_sync}
 use Rattle.mar_model.specs.OpenSyncs.{AreStillOpen, covered_by, sync_of, syncs_by, without_ticket}
 use Rattle.mar_model.specs.Pool.{Pool, Pooled, pool_deferred, pool_ticketed, writing_of}
-use Rattle.mar_model.specs.Writing.{IsOrdered, OpenSync, Writing, is_open_sync, total_writes, with_finished, with_started, without_sync}
+use Rattle.mar_model.specs.Writing.{IsOrdered, OpenSync, Writing, is_open_sync, total_writes, with_all_covered, with_finished, with_started, without_sync}
 use Rattle.mar_model.specs.declared.CacheTicket.{CacheTicket}
 use Rattle.mar_model.specs.declared.OpenTicket.{OpenTicket}
 use Rattle.mar_model.specs.declared.Place.{Place}
@@ -84,6 +84,12 @@ own_after_start r old new tickets started same own = either r started same
 pub own_after_finish : {X C : Type 0} (t : ℕ) (r : Result X C) (old new : Pool) (tickets : List OpenTicket) → OnOk r (writing_of new ≡ with_finished t (writing_of old)) → OnErr r (new ≡ old) → OwnNumbers (writing_of old) tickets → OwnNumbers (writing_of new) tickets
 own_after_finish t r old new tickets finished same own = either r finished same
     (λ is. subst (λ w. OwnNumbers w tickets) (sym is) (own_so (writing_of old) (with_finished t (writing_of old)) (λ n has. (has.0, unopened t n _ has.1)) tickets own))
+    (λ is. subst (λ p. OwnNumbers (writing_of p) tickets) (sym is) own)
+
+-- a sync of both archives that covers all writes, or that fails
+pub own_after_sync : {X C : Type 0} (r : Result X C) (old new : Pool) (tickets : List OpenTicket) → OnOk r (writing_of new ≡ with_all_covered (writing_of old)) → OnErr r (new ≡ old) → OwnNumbers (writing_of old) tickets → OwnNumbers (writing_of new) tickets
+own_after_sync r old new tickets covered same own = either r covered same
+    (λ is. subst (λ w. OwnNumbers w tickets) (sym is) (own_so (writing_of old) (with_all_covered (writing_of old)) (λ n has. has) tickets own))
     (λ is. subst (λ p. OwnNumbers (writing_of p) tickets) (sym is) own)
 
 -- a write was deferred, or none was

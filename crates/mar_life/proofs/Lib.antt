@@ -8,3 +8,4 @@ pub mod Reading
 pub mod Changed
 pub mod Caches
 pub mod CacheSyncs
+pub mod CachedFinalizations

@@ -4,7 +4,7 @@ use Rattle.std.proofs.lemmas.List.Elements.{Contains-append_cases, Contains-appe
 use Rattle.std.specs.List.{AllByRecursion}
 use Rattle.std.specs.Prelude.{IfErr, IfOk, MatchResult, OnErr, OnOk}
 use Rattle.mar_cert.specs.Block.{Block}
-use Rattle.mar_store.specs.Changes.{IsNested, KeepsValues, Left, Puts}
+use Rattle.mar_store.specs.Changes.{IsNested, KeepsValues, Left, Puts, Syncs}
 use Rattle.mar_store.specs.Kept.{At, Kept, value_at}
 use Rattle.mar_store.specs.Tickets.{last_number}
 use Rattle.mar_store.specs.Watch.{Watch}
@@ -12,7 +12,7 @@ use Rattle.mar_model.specs.Faults.{Fault, StoreName, store_fault, want_of_memory
 use Rattle.mar_model.specs.Held.{IsArchiveFault, IsReadFault, IsUsual, MakesSure, Passes}
 use Rattle.mar_model.specs.Moves.{StoresValue}
 use Rattle.mar_model.specs.Places.{is_open, is_there, kept_at, watch_at}
-use Rattle.mar_model.specs.Pool.{Pool, Pooled, pool_deferred, pool_finished, pool_started, pooled_at, writing_of}
+use Rattle.mar_model.specs.Pool.{Pool, Pooled, pool_cleared, pool_deferred, pool_finished, pool_started, pooled_at, writing_of}
 use Rattle.mar_model.specs.Staged.{Staged, is_taken_in, staged_where}
 use Rattle.mar_model.specs.Stored.{at_own_height}
 use Rattle.mar_model.specs.Writing.{IsLastWrite, IsOrdered}
@@ -223,6 +223,14 @@ module _ {T S W : Type 0} (stored : S → Kept (At T)) (number : S → ℕ) (cov
       pub finished_surer : FinishesIn stored covers ticket old new → SurerIn stored left watch watch_left old new
       finished_surer finishes = record { surer = finished_in ticket old new stays finishes; nested = nested_in law old new stays; still = open_in old new stays; passed = passed }
 
+    -- a sync that was waited for
+    module _ (law : (s : S) → IsNested (stored s)) (old new : Place S W) (stays : StaysIn stored number covers old new) (syncs : Syncs (kept_at stored left old) (kept_at stored left new)) where
+      pub synced_in : MakesSure (kept_at stored left old) (kept_at stored left new)
+      synced_in = MakesSure-synced (kept_at stored left old) (kept_at stored left new) (nested_before law old new stays) syncs
+
+      pub synced_surer : (watch : S → Watch) (watch_left : W → Watch) → Passes (watch_at watch watch_left old) (watch_at watch watch_left new) → SurerIn stored left watch watch_left old new
+      synced_surer watch watch_left passed = record { surer = synced_in; nested = nested_in law old new stays; still = open_in old new stays; passed = passed }
+
     -- a read changes nothing of what is kept
     pub read_same : (old new : Place S W) → IsReadIn stored number covers left old new → kept_at stored left new ≡ kept_at stored left old
     read_same (Open s) (Open t) read = read.0
@@ -299,7 +307,12 @@ module _ {T S W : Type 0} (stored : S → Kept (At T)) (number : S → ℕ) (cov
       -- a value was put, and then a sync made all sure
       pub waits_stored : {ignored : Bool} {x : At T} → StoresValue ignored (kept_at stored left old) x (kept_at stored left new) → AwaitsIn ticket_of stored number covers new pool
       waits_stored {ignored = ignored} {x = x} stores = in_place (λ o n. StoresValue ignored (kept_at stored left o) x (kept_at stored left n) → AwaitsIn ticket_of stored number covers o pool → AwaitsIn ticket_of stored number covers n pool)
-          (λ s t stays stores waits. AwaitsSyncs-sure ticket_of (stored s) (number s) (covers s) pool waits (stored t) (number t) (covers t) stores.sure stays.more) old new stays stores waits
+          (λ s t stays stores waits. AwaitsSyncs-sure ticket_of (stored s) (number s) (covers s) pool waits (stored t) (number t) (covers t) pool.covered pool.uncovered stores.sure stays.more) old new stays stores waits
+
+      -- a sync made all sure, and then no write waits
+      pub waits_cleared : {later : Pool} → Syncs (kept_at stored left old) (kept_at stored left new) → later ≡ pool_cleared pool → AwaitsIn ticket_of stored number covers new later
+      waits_cleared {later = later} syncs cleared = subst (AwaitsIn ticket_of stored number covers new) (sym cleared) (in_place (λ o n. Syncs (kept_at stored left o) (kept_at stored left n) → AwaitsIn ticket_of stored number covers o pool → AwaitsIn ticket_of stored number covers n (pool_cleared pool))
+          (λ s t stays syncs waits. AwaitsSyncs-sure ticket_of (stored s) (number s) (covers s) pool waits (stored t) (number t) (covers t) (pool_cleared pool).covered (pool_cleared pool).uncovered (syncs.sure ∙ sym syncs.held) stays.more) old new stays syncs waits)
 
       -- a sync of both archives was started, with these tickets
       pub waits_started : (blocks certs ticket : ℕ) {later : Pool} → ticket ≡ ticket_of (record { sync = record { ticket = pool.next_sync; position = pool.covered + length pool.uncovered }; blocks = blocks; certs = certs }) → StartsIn stored number covers ticket old new → ticket ≤ last_number → later ≡ pool_started blocks certs pool → AwaitsIn ticket_of stored number covers new later

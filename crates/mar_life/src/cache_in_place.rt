@@ -242,6 +242,13 @@ impl<V: Variant, F: CommitsTo<V::Commitment>, H: Shelf<V, F>> LifeCache<V, F>
         };
         answered(cache.has_verified(round, digest), StoreName::Cache)
     }
+
+    fn find_finalization(&mut self, digest: V::Digest) -> Result<Option<F>, Fault<V::Commitment>> {
+        let Place::Open(cache) = &mut self.place else {
+            return Err(Fault::Memory);
+        };
+        answered(cache.get_finalization_for(digest), StoreName::Cache)
+    }
 }
 
 impl<V: Variant, F: CommitsTo<V::Commitment>, H: Shelf<V, F>> LifeNotarizations<V, F>

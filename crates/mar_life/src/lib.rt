@@ -5,6 +5,7 @@ mod blocks;
 mod blocks_in_place;
 mod cache_in_place;
 mod cache_syncs;
+mod cached_finalizations;
 mod certificates;
 mod certificates_in_place;
 mod in_place;
@@ -14,6 +15,7 @@ mod life_cache;
 mod opening;
 mod ruins;
 mod stores;
+mod stores_gaps;
 mod syncs;
 
 pub use blocks::Blocks;

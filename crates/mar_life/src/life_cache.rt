@@ -12,7 +12,7 @@ ghost use Rattle.mar_model.specs.AllEntries.{LeavesEntries, LoadsEntries, soones
 ghost use Rattle.mar_model.specs.CacheCalls.{IsNestedCache, JoinsTickets, KeepsTickets, ReopensCache, UnopensCache, none_goes};
 ghost use Rattle.mar_model.specs.Cache.{is_below};
 ghost use Rattle.mar_model.specs.Cached.{Cached, cached_block, finalization_entry, notarization_entry, notarized_entry, verified_entry};
-ghost use Rattle.mar_model.specs.Entries.{has_digest, is_sought, is_verified_at, sought_block};
+ghost use Rattle.mar_model.specs.Entries.{has_digest, is_for, is_sought, is_verified_at, sought_block};
 ghost use Rattle.mar_model.specs.Faults.{cache_store};
 ghost use Rattle.mar_model.specs.Held.{Passes};
 ghost use Rattle.mar_model.specs.LuckyEntries.{lucky_entries};
@@ -197,6 +197,16 @@ pub trait LifeCache<V: Variant, F: CommitsTo<V::Commitment>>: Drop {
     ) -> Result<bool, Fault<V::Commitment>>
         ensures found { IfOk result (λ b. b ≡ list_any (λ x. is_verified_at round x && has_digest (V.Digest.bytes digest) (cached_block x))
             (held self.old).kept.held) }
+        ensures tickets { covers self.new ≡ covers self.old }
+        ensures same { (held self.new ≡ held self.old) × (lowest self.new ≡ lowest self.old) × (lowests self.new ≡ lowests self.old)
+            × (intact self.new ≡ intact self.old) }
+        ensures passed { OnOk result (Passes (watch self.old) (watch self.new)) }
+        ensures failed { IfErr result (λ e. IsFaultOf cache_store (watch self.old) (fault_of V.Commitment.bytes e) (watch self.new)) };
+
+    /// A finalization of the block of a digest: in the newest epoch that has one, there that of the lowest view.
+    fn find_finalization(&mut self, digest: V::Digest) -> Result<Option<F>, Fault<V::Commitment>>
+        ensures found { IfOk result (λ o. option_map (λ f. finalization_entry (F.plain f)) o
+            ≡ soonest (is_for V.inner (V.Digest.bytes digest)) (held self.old).kept.held) }
         ensures tickets { covers self.new ≡ covers self.old }
         ensures same { (held self.new ≡ held self.old) × (lowest self.new ≡ lowest self.old) × (lowests self.new ≡ lowests self.old)
             × (intact self.new ≡ intact self.old) }

@@ -40,12 +40,12 @@ pub struct Stores<
     M: Meta,
     H: LifeCache<V, F>,
 > {
-    blocks: Place<FB, FB::Wreck>,
-    certs: Place<FC, FC::Wreck>,
-    writes: Writes,
+    pub(crate) blocks: Place<FB, FB::Wreck>,
+    pub(crate) certs: Place<FC, FC::Wreck>,
+    pub(crate) writes: Writes,
     staged: Staged<V::Block>,
     progress: Progress<M, V::Commitment, F>,
-    cache: H,
+    pub(crate) cache: H,
     syncs: OpenTickets,
     of: PhantomData<(V, F)>,
 }

@@ -3,7 +3,7 @@ ghost use Rattle.std.specs.Prelude.{◌≡◌, ◌⊎◌, ◌-◌, ◌^◌, IfEr
 ghost use Rattle.mar_model.specs.Faults.{sync_kind, ticket_limit};
 ghost use Rattle.mar_model.specs.Places.{is_open, kept_at};
 ghost use Rattle.mar_model.specs.Pool.{syncs_of, writing_of};
-ghost use Rattle.mar_model.specs.Writing.{IsOrdered, is_open_sync, with_finished, with_started};
+ghost use Rattle.mar_model.specs.Writing.{IsOrdered, is_open_sync, with_all_covered, with_finished, with_started};
 ghost use Rattle.mar_life.specs.Pooling.{AwaitsIn, FailsBoth, HoldsIn, SurerIn, of_blocks, of_certs};
 ghost use Rattle.mar_model.specs.Views.{fault_of};
 
@@ -78,4 +78,30 @@ pub fn finish<T, S: Keeps<T>, U, R: Keeps<U>, C: Named>(
     writes.finish(ticket);
     writes.law();
     Ok(true)
+}
+
+/// Syncs both archives and waits for that, so that no write waits any more. The open syncs stay open.
+pub fn sync_both<T, S: Keeps<T>, U, R: Keeps<U>, C: Named>(
+    blocks: &mut Place<S, S::Wreck>,
+    certs: &mut Place<R, R::Wreck>,
+    writes: &mut Writes,
+) -> Result<(), Fault<C>>
+    requires blocks { AwaitsIn of_blocks S.stored S.number S.covers blocks.old writes.old }
+    requires certs { AwaitsIn of_certs R.stored R.number R.covers certs.old writes.old }
+    ensures blocks { AwaitsIn of_blocks S.stored S.number S.covers blocks.new writes.new }
+    ensures certs { AwaitsIn of_certs R.stored R.number R.covers certs.new writes.new }
+    ensures holds { HoldsIn S.stored blocks.old blocks.new }
+    ensures ordered { OnOk result (IsOrdered (writing_of writes.new)) }
+    ensures covered { OnOk result (writing_of writes.new ≡ with_all_covered (writing_of writes.old)) }
+    ensures uncovered { OnErr result (writes.new ≡ writes.old) }
+    ensures surer_blocks { OnOk result (SurerIn S.stored S.Wreck.left S.watch S.Wreck.watch blocks.old blocks.new) }
+    ensures surer_certs { OnOk result (SurerIn R.stored R.Wreck.left R.watch R.Wreck.watch certs.old certs.new) }
+    ensures failed { IfErr result (λ e. FailsBoth S.stored S.Wreck.left S.watch S.Wreck.watch
+        R.stored R.Wreck.left R.watch R.Wreck.watch blocks.old blocks.new certs.old certs.new (fault_of C.bytes e)) }
+{
+    in_place::sync::<T, S, C>(blocks, StoreName::Blocks)?;
+    in_place::sync::<U, R, C>(certs, StoreName::Certs)?;
+    writes.clear();
+    writes.law();
+    Ok(())
 }

@@ -1,6 +1,7 @@
 -- What a step answers, and what it takes up of the cache: read off its plan.
-use Rattle.std.proofs.Common.{◌≡◌, ◌∷◌, [], List, Option, None, Some, Bool, true, false, cond, nat_lt, map, option_to_list, Ok, ◌++◌, ◌<◌, ◌≤◌, ◌==◌, ℕ, refl, sym, ◌∙◌, ap, subst, append-nil, append_assoc, is_some}
+use Rattle.std.proofs.Common.{◌≡◌, ◌∷◌, [], List, Option, None, Some, Bool, true, false, cond, nat_lt, map, option_to_list, Ok, ◌++◌, ◌==◌, ℕ, refl, sym, ◌∙◌, ap, subst, append-nil, append_assoc, is_some}
 use Rattle.std.specs.Prelude.{⊤}
+use Rattle.std.specs.List.{AllByRecursion}
 use Rattle.mar_types.specs.Round.{Round}
 use Rattle.mar_cert.specs.Block.{Block}
 use Rattle.mar_cert.specs.Finalization.{Finalization}
@@ -18,9 +19,10 @@ use Rattle.mar_model.specs.OpenSyncs.{is_cache_sync}
 use Rattle.mar_model.specs.Promise.{Heard}
 use Rattle.mar_model.specs.Queries.{answers_found, value_found}
 use Rattle.mar_model.specs.Stored.{newest}
-use Rattle.mar_model.specs.Acts.{AreLawful, KeepAct, ask, caches, finish_kept, keep_certified, keep_notarization, keep_verified, keeps_for, load_cache, mark, note, process, progresses, put_finalization, reply, says, send, start_sync, store, stores, sync_progress, tell}
+use Rattle.mar_model.specs.Acts.{Act, AreLawful, IsDone, KeepAct, ask, caches, finish_kept, keep_certified, keep_notarization, keep_verified, keeps_for, load_cache, mark, note, process, progresses, put_finalization, reply, says, send, start_sync, store, stores, sync_progress, sync_writes, tell}
 use Rattle.mar_model.specs.Plans.{Found, RunsPlan, ack_plan, answer_plan, drain_plan, final_plan, keep_plan, late_plan, newest_plan, oldest_plan, plan_of, sent_block, settle_plan, sync_plan}
-use Rattle.mar_model.specs.Ran.{DoesTask, Runs, Task, dispatches, does, ends}
+use Rattle.mar_model.specs.Ran.{DoesTask, Runs, RunsActs, Task, dispatches, does, ends, repairs}
+use Rattle.mar_model.proofs.Acting.{IsPassAct, ran-passes}
 use Rattle.mar_model.specs.Scene.{Scene, scene, window_of}
 use Rattle.mar_model.proofs.Living.{Runs-keeps}
 use Rattle.mar_model.proofs.OpenSyncs.{waits-none}
@@ -40,6 +42,7 @@ answers_by (does (says (tell r h d))) = false
 answers_by (does (says (ask calls))) = false
 answers_by (does (says (send x))) = false
 answers_by (does (says (reply a))) = true
+answers_by (repairs buffer) = false
 answers_by dispatches = false
 answers_by (ends fault) = false
 
@@ -53,6 +56,22 @@ unanswering_first : (b : Bool) (rest : List Bool) → Unanswering (b ∷ rest) �
 unanswering_first true rest none = absurd none
 unanswering_first false rest none = (refl, none)
 
+-- no act of a pass of repair answers
+act_unanswered : (inner : List ℕ → List ℕ) (a : Act) (s t : Scene) → IsPassAct a → IsDone inner a s t → t.heard.answers ≡ s.heard.answers
+act_unanswered inner (stores a) s t is (done, joins, law, same) = ap (λ (y : Scene). y.heard.answers) same
+act_unanswered inner (says (tell r h d)) s t is (heard, same) = ap (λ (y : Scene). y.heard.answers) same
+act_unanswered inner (says (ask calls)) s t is (heard, same) = ap (λ (y : Scene). y.heard.answers) same
+act_unanswered inner (says (send x)) s t is did = absurd is
+act_unanswered inner (says (reply a)) s t is did = absurd is
+act_unanswered inner (caches a) s t is did = absurd is
+act_unanswered inner (keeps_for a) s t is did = absurd is
+act_unanswered inner (progresses a) s t is did = absurd is
+
+row_unanswered : (inner : List ℕ → List ℕ) (acts : List Act) (s t : Scene) → AllByRecursion IsPassAct acts → RunsActs inner s acts t → t.heard.answers ≡ s.heard.answers
+row_unanswered inner [] s t are reads = ap (λ (y : Scene). y.heard.answers) reads.same
+row_unanswered inner (a ∷ acts) s t are (mid, after, reads, did, runs) =
+    row_unanswered inner acts after t are.1 runs ∙ (act_unanswered inner a mid after are.0 did ∙ ap (λ (y : Scene). y.heard.answers) reads.same)
+
 task_unanswered : (inner : List ℕ → List ℕ) (k : Task) (s t : Scene) → answers_by k ≡ false → DoesTask inner k s t → t.heard.answers ≡ s.heard.answers
 task_unanswered inner (does (caches a)) s t none (is, joins, law, same) = ap (λ (y : Scene). y.heard.answers) same
 task_unanswered inner (does (keeps_for a)) s t none did = absurd (let both : true ≡ false = none in cc)
@@ -65,6 +84,7 @@ task_unanswered inner (does (says (tell r h d))) s t none (heard, same) = ap (λ
 task_unanswered inner (does (says (ask calls))) s t none (heard, same) = ap (λ (y : Scene). y.heard.answers) same
 task_unanswered inner (does (says (send x))) s t none (heard, same) = ap (λ (y : Scene). y.heard.answers) same
 task_unanswered inner (does (says (reply a))) s t none same = absurd (let both : true ≡ false = none in cc)
+task_unanswered inner (repairs buffer) s t none pass = let (acts, are, ran) = ran-passes inner buffer s t pass in row_unanswered inner acts s t are ran
 task_unanswered inner dispatches s t none hands = ap (λ (y : Scene). y.heard.answers) hands.same
 task_unanswered inner (ends fault) s t none did = absurd did
 
@@ -99,9 +119,13 @@ drain-none (o ∷ out) rest none = by o.mark (drain-none out rest none)
 marked-none : (out : List Outstanding) (t : ℕ) (m : Mark) → Unanswering (map answers_by (ack_plan out t m))
 marked-none out t m = drain-none (with_mark t m out) (settle_plan (is_some (given_oldest (with_mark t m out)))) (settle-none (is_some (given_oldest (with_mark t m out))))
 
-start-none : (inner : List ℕ → List ℕ) (o : Option (At Finalization)) → Unanswering (map answers_by (newest_plan inner o ++ does (caches load_cache) ∷ dispatches ∷ []))
-start-none inner None = tt
-start-none inner (Some x) = tt
+-- what a start does behind the tip of its newest finalization
+abbrev behind_newest : List Block → List Task
+behind_newest buffer = does (caches load_cache) ∷ repairs buffer ∷ does (stores sync_writes) ∷ dispatches ∷ []
+
+start-none : (inner : List ℕ → List ℕ) (buffer : List Block) (o : Option (At Finalization)) → Unanswering (map answers_by (newest_plan inner o ++ behind_newest buffer))
+start-none inner buffer None = tt
+start-none inner buffer (Some x) = tt
 
 sync-none : (b : Bool) (t : ℕ) → Unanswering (map answers_by (sync_plan b t))
 sync-none true t = tt
@@ -112,13 +136,13 @@ keep-none r None c = tt
 keep-none r (Some b) true = tt
 keep-none r (Some b) false = tt
 
-final-none : (h : Held) (f : Finalization) (o : Option Block) → Unanswering (map answers_by (final_plan h f o))
-final-none h f None = tt
-final-none h f (Some b) = by (nat_lt (height_of h.processed) b.height) (b.height == last_height) (lacks_finalization h b)
+final-none : (buffer : List Block) (h : Held) (f : Finalization) (o : Option Block) → Unanswering (map answers_by (final_plan buffer h f o))
+final-none buffer h f None = tt
+final-none buffer h f (Some b) = by (nat_lt (height_of h.processed) b.height) (b.height == last_height) (lacks_finalization h b)
   where
     by : (c last lacking : Bool) → Unanswering (map answers_by
         (does (caches (put_finalization f)) ∷ cond c
-        (cond last (ends (height_limit b.height) ∷ []) (does (stores (store f b)) ∷ does (says (tell f.round b.height b.digest)) ∷ does (stores start_sync) ∷ []))
+        (cond last (ends (height_limit b.height) ∷ []) (does (stores (store f b)) ∷ does (says (tell f.round b.height b.digest)) ∷ repairs buffer ∷ does (stores start_sync) ∷ []))
         (does (progresses (note f.round)) ∷ late_plan lacking f b)))
     by true true lacking = tt
     by true false lacking = tt
@@ -142,8 +166,8 @@ module _ {P E : Type 0} (life : Remembered P E) (inner : List ℕ → List ℕ) 
       ap (λ (y : Scene). y.heard.answers) reads.same ∙ (ap (λ (y : Scene). y.heard.answers) did.4 ∙ (ap (λ xs. xs ++ did.0) before ∙ ap (λ xs. s.heard.answers ++ xs) (are m did.0 did)))
 
   answered-message : (k : Option ℕ) (m : Message) → Answered (message_told k m)
-  answered-message None (report_finalization f) runs in_cache = nobody (final_plan s.held f found.block) (final-none s.held f found.block) runs
-  answered-message (Some k) (report_finalization f) runs in_cache = nobody (final_plan s.held f found.block) (final-none s.held f found.block) runs
+  answered-message None (report_finalization f) runs in_cache = nobody (final_plan buffer s.held f found.block) (final-none buffer s.held f found.block) runs
+  answered-message (Some k) (report_finalization f) runs in_cache = nobody (final_plan buffer s.held f found.block) (final-none buffer s.held f found.block) runs
   answered-message None (report_notarization n) runs in_cache = nobody (does (caches (keep_notarization n)) ∷ keep_plan n.round found.block found.is_verified)
       (keep-none n.round found.block found.is_verified) runs
   answered-message (Some k) (report_notarization n) runs in_cache = nobody (does (caches (keep_notarization n)) ∷ keep_plan n.round found.block found.is_verified)
@@ -204,8 +228,8 @@ module _ {P E : Type 0} (life : Remembered P E) (inner : List ℕ → List ℕ) 
           (λ o. s.heard.answers ++ map (λ a. to a true_value) (option_to_list o)) (sym (waits-none k s.held.cache.syncs (none_of k s.held.cache.syncs is)))
 
   answered : (e : Event) → Answered e
-  answered (life_started f) runs in_cache = nobody (newest_plan inner (newest s.held.certs.held) ++ does (caches load_cache) ∷ dispatches ∷ []) (start-none inner (newest s.held.certs.held))
-      runs
+  answered (life_started f) runs in_cache = nobody (newest_plan inner (newest s.held.certs.held) ++ behind_newest buffer)
+      (start-none inner buffer (newest s.held.certs.held)) runs
   answered (message_told k m) runs in_cache = answered-message k m runs in_cache
   answered (sync_finished k) runs in_cache = answered-sync k runs in_cache
   answered (ack_marked k m) runs in_cache = nobody (ack_plan s.life.out k m) (marked-none s.life.out k m) runs
@@ -216,17 +240,17 @@ module _ {P E : Type 0} (life : Remembered P E) (inner : List ℕ → List ℕ) 
 
 -- WHAT IS TAKEN UP
 
-loads_rest : (inner : List ℕ → List ℕ) (m t : Scene) → AreLawful m.held → Runs inner m (does (caches load_cache) ∷ dispatches ∷ []) t → t.held.cache.loaded ≡ true
-loads_rest inner m t law runs =
-    let (u, did, rest) = runs_first inner (does (caches load_cache)) (dispatches ∷ []) m t law runs in
-    (Runs-keeps inner u.life.sizes.window (dispatches ∷ []) u t refl rest).loaded did.0.loaded
+loads_rest : (inner : List ℕ → List ℕ) (buffer : List Block) (m t : Scene) → AreLawful m.held → Runs inner m (behind_newest buffer) t → t.held.cache.loaded ≡ true
+loads_rest inner buffer m t law runs =
+    let (u, did, rest) = runs_first inner (does (caches load_cache)) (repairs buffer ∷ does (stores sync_writes) ∷ dispatches ∷ []) m t law runs in
+    (Runs-keeps inner u.life.sizes.window (repairs buffer ∷ does (stores sync_writes) ∷ dispatches ∷ []) u t refl rest).loaded did.0.loaded
 
-loads : (inner : List ℕ → List ℕ) (s t : Scene) (o : Option (At Finalization)) → AreLawful s.held → Runs inner s (newest_plan inner o ++ does (caches load_cache) ∷ dispatches ∷ []) t
+loads : (inner : List ℕ → List ℕ) (buffer : List Block) (s t : Scene) (o : Option (At Finalization)) → AreLawful s.held → Runs inner s (newest_plan inner o ++ behind_newest buffer) t
     → t.held.cache.loaded ≡ true
-loads inner s t None law runs = loads_rest inner s t law runs
-loads inner s t (Some x) law runs =
-    let (m, did, rest) = runs_first inner (does (says (tell x.value.round x.height (inner x.value.payload)))) (does (caches load_cache) ∷ dispatches ∷ []) s t law runs in
-    loads_rest inner m t (subst AreLawful (sym (ap (λ (y : Scene). y.held) did.1)) law) rest
+loads inner buffer s t None law runs = loads_rest inner buffer s t law runs
+loads inner buffer s t (Some x) law runs =
+    let (m, did, rest) = runs_first inner (does (says (tell x.value.round x.height (inner x.value.payload)))) (behind_newest buffer) s t law runs in
+    loads_rest inner buffer m t (subst AreLawful (sym (ap (λ (y : Scene). y.held) did.1)) law) rest
 
 -- THE CLAUSES OF A STEP
 
@@ -238,7 +262,7 @@ module _ {P E : Type 0} (life : Remembered P E) (inner : List ℕ → List ℕ) 
   kept_loaded e plan was = (Runs-keeps inner s.life.sizes.window (plan_of inner buffer s e plan.found) s (scene n.held (window_of n.life) s.standing heard) refl plan.ran).loaded was
 
   pub step_loaded : (e : Event) → RunsPlan inner buffer e s heard (Ok n) → KeepsTakenUp e (seen_at life s) n
-  step_loaded (life_started f) plan = loads inner s (scene n.held (window_of n.life) s.standing heard) (newest s.held.certs.held) law plan.ran
+  step_loaded (life_started f) plan = loads inner buffer s (scene n.held (window_of n.life) s.standing heard) (newest s.held.certs.held) law plan.ran
   step_loaded (message_told t m) plan = kept_loaded (message_told t m) plan
   step_loaded (ack_marked t m) plan = kept_loaded (ack_marked t m) plan
   step_loaded (sync_finished t) plan = kept_loaded (sync_finished t) plan

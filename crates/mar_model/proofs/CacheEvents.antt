@@ -13,7 +13,7 @@ use Rattle.mar_model.specs.Held.{HeldCache, Seen, Watches}
 use Rattle.mar_model.specs.Lives.{is_refused_floor}
 use Rattle.mar_model.specs.Node.{CertifiedCommitment, IsCacheOf, IsGood, Node, Rest, write_count}
 use Rattle.mar_model.specs.Promise.{IsKnownSince, Waiting, knowing, node_of}
-use Rattle.mar_model.specs.Requests.{own_asks}
+use Rattle.mar_model.specs.Requests.{is_pass, own_asks, repairs_twice}
 use Rattle.mar_model.specs.Step.{AdvancesBy, IsStored, IsStoredLate, Made, Steps, finished_position, without_finished}
 use Rattle.mar_model.proofs.PlainEvents.{Certificates-beside, Certificates-same, EntersAt-same, KeepsFrom-same, Writes-alike}
 use Rattle.mar_model.proofs.SyncTickets.{with_sync-unwritten}
@@ -34,6 +34,8 @@ pub record LeavesArchives (config : Config) (n : Node) (e : Event) : Type 0 wher
   pub asks : own_asks config n e no_floor ≡ []
   pub subscriptions : subscriptions_after n e no_floor ≡ []
   pub unrefused : (fault : Fault) → is_refused_floor e fault ≡ false
+  pub once : repairs_twice e no_floor ≡ false
+  pub no_pass : (n' : Node) → is_pass n e no_floor n' ≡ false
 
 -- what such an event makes
 abbrev pub sent_and_answered : List Sent → List TicketAnswer → Made
@@ -84,7 +86,17 @@ module _ {P E : Type 0} (config : Config) (chain : Chain) (a : Seen P E) (buffer
           query = query;
           no_fault = quiet.no_fault;
           beside = record {
-            asks = sym quiet.asks;
+            more = [];
+            asks = sym quiet.asks ∙ sym (append-nil (own_asks config n e no_floor));
+            passes = record {
+              first = [];
+              second = [];
+              split = refl;
+              idle = λ is. refl;
+              once = λ is. refl;
+              repaired_first = λ twice none. absurd (let no : false ≡ true = sym quiet.once ∙ twice in cc);
+              repaired = λ pass none. absurd (let no : false ≡ true = sym (quiet.no_pass n') ∙ pass in cc);
+            };
             sends = sent;
             answers = answered;
             subscriptions = sym quiet.subscriptions;

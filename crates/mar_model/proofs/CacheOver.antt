@@ -155,7 +155,7 @@ advances_report config a m f buffer buffer' waiting waiting' rounds mid cached l
 
 -- what is held and may be left is what was, and the entry
 module _ (f : Finalization) (old mid : Held) (loaded : old.cache.loaded ≡ true) (puts : PutsAndSyncs (finalization_entry f) old.lowest old.cache.loaded old.cache.kept mid.cache.kept) where
-  held_put : Within mid.cache.kept.held (old.cache.kept.held ++ finalization_entry f ∷ [])
+  pub held_put : Within mid.cache.kept.held (old.cache.kept.held ++ finalization_entry f ∷ [])
   held_put y has = elim (cases_lt f.round.epoch old.lowest) [
     | inl less ↦ Contains-append_left old.cache.kept.held (finalization_entry f ∷ []) y (subst (λ k. Contains k.held y) (puts.ready less) has)
     | inr from ↦ own (list_any (is_in_place (finalization_entry f)) old.cache.kept.held) ((puts.done loaded from).puts.only y has)
@@ -165,7 +165,7 @@ module _ (f : Finalization) (old mid : Held) (loaded : old.cache.loaded ≡ true
       own true there = Contains-append_left old.cache.kept.held (finalization_entry f ∷ []) y there
       own false there = there
 
-  may_put : Within mid.cache.kept.may (old.cache.kept.may ++ finalization_entry f ∷ [])
+  pub may_put : Within mid.cache.kept.may (old.cache.kept.may ++ finalization_entry f ∷ [])
   may_put y has = elim (cases_lt f.round.epoch old.lowest) [
     | inl less ↦ Contains-append_left old.cache.kept.may (finalization_entry f ∷ []) y (subst (λ k. Contains k.may y) (puts.ready less) has)
     | inr from ↦ (puts.done loaded from).puts.may y has

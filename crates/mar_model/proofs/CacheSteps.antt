@@ -1,5 +1,5 @@
 -- An event that puts one entry, or none, and prunes by rounds advances the cache as its definition says.
-use Rattle.std.proofs.Common.{◌≡◌, ◌≢◌, ◌⊎◌, inl, inr, ◌<◌, ◌==◌, ◌&&◌, ◌||◌, not, zero, suc, List, [], ◌∷◌, ◌++◌, Bool, true, false, IsTrue, Contains, Some, cond, refl, ap, sym, subst, arith, ◌∙◌, ◌≤◌, ℕ, ap₂}
+use Rattle.std.proofs.Common.{◌≡◌, ◌≢◌, ◌⊎◌, inl, inr, ◌<◌, ◌==◌, ◌&&◌, ◌||◌, not, zero, List, [], ◌∷◌, ◌++◌, Bool, true, false, IsTrue, Contains, Some, cond, refl, ap, sym, subst, arith, ◌∙◌, ◌≤◌, ℕ, ap₂}
 use Rattle.std.specs.Prelude.{fold}
 use Rattle.std.specs.List.{filter_map, list_any}
 use Rattle.std.proofs.lemmas.Bool.{eq-eqb}

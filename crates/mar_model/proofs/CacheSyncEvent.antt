@@ -30,7 +30,7 @@ module _ {P E : Type 0} (epochs : Epochs) (inner : List ℕ → List ℕ) (a : S
 
   -- it is no sync of both archives
   pub quiet : (config : Config) (waiting : Waiting) → is_open_sync a.held.writes.syncs t ≡ false → LeavesArchives config (node_of a buffer waiting) e
-  quiet config waiting other = record { effect = refl; undrained = refl; processed = refl; cutoff = refl; storing = refl; position = position-closed a.held.writes.syncs t other; syncs = without-closed a.held.writes.syncs t other; witnessing = refl; no_fault = refl; asks = refl; subscriptions = refl; unrefused = λ fault. refl }
+  quiet config waiting other = record { effect = refl; undrained = refl; processed = refl; cutoff = refl; storing = refl; position = position-closed a.held.writes.syncs t other; syncs = without-closed a.held.writes.syncs t other; witnessing = refl; no_fault = refl; asks = refl; subscriptions = refl; unrefused = λ fault. refl; once = refl; no_pass = λ n'. refl }
 
   advances : (config : Config) (waiting : Waiting) (m : Held) → AreCached a.held → FinishesCacheSync t a.held m → AdvancesCache config (node_of a buffer waiting) e no_floor (node_of (cached_with a m.cache a.held.writes.next_sync m.watches) buffer waiting)
   advances config waiting m cached finishes = advances_none config (node_of a buffer waiting) e no_floor (node_of (cached_with a m.cache a.held.writes.next_sync m.watches) buffer waiting) (record {

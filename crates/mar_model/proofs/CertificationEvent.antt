@@ -1,5 +1,5 @@
 -- What is known as certified after an event.
-use Rattle.std.proofs.Common.{◌≡◌, ℕ, List, [], ◌∷◌, ◌++◌, Bool, true, false, nat_lt, filter, IsTrue, refl, ◌∙◌, ap}
+use Rattle.std.proofs.Common.{◌≡◌, ℕ, List, ◌++◌, Bool, true, false, nat_lt, filter, IsTrue, refl, ◌∙◌, ap}
 use Rattle.mar_cert.specs.Block.{Block}
 use Rattle.mar_model.specs.Event.{Event, message_told, Effect, effect_of, is_query, life_started, ack_marked, sync_finished, peer_answered, gave_block, gave_finalized, gave_notarized, gave_nothing, serve_ended, block_buffered, buffer_ended}
 use Rattle.mar_model.specs.Messages.{report_certification, report_finalization, report_notarization, verified, proposed, prepared, certify, get_info, get_block, get_finalization, get_processed, get_anchor, get_verified, hint_finalized, set_floor, prune_below, hint_notarized, forward, close_ticket, subscribe_digest, subscribe_commitment}

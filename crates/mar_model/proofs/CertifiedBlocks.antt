@@ -1,5 +1,5 @@
 -- A certified block: whether it was verified at its round is the same before and behind the put of its event.
-use Rattle.std.proofs.Common.{◌≡◌, ◌&&◌, ◌||◌, ◌==◌, ℕ, List, [], ◌∷◌, Bool, true, false, cond, filter, bytes_eq, refl, sym, ap, ◌∙◌, Contains, ap₂}
+use Rattle.std.proofs.Common.{◌≡◌, ◌&&◌, ◌||◌, ℕ, List, [], ◌∷◌, Bool, true, false, cond, filter, bytes_eq, refl, sym, ap, ◌∙◌, Contains, ap₂}
 use Rattle.std.specs.List.{list_any}
 use Rattle.std.proofs.lemmas.Bool.{false_from_ne_true}
 use Rattle.std.proofs.lemmas.Slice.Eq.{bytes_eq-Decides}

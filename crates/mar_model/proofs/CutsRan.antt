@@ -16,22 +16,23 @@ use Rattle.mar_model.specs.Acks.{height_after}
 use Rattle.mar_model.specs.Answers.{Sent, sends_of, TicketAnswer, answers_of}
 use Rattle.mar_model.specs.Chain.{Chain, IsBlockAt}
 use Rattle.mar_model.specs.Config.{Config}
-use Rattle.mar_model.specs.Event.{Event, brought_block, effect_of, no_floor, processed_after, told_finalization, kept_blocks}
+use Rattle.mar_model.specs.Event.{Event, effect_of, no_floor, processed_after, kept_blocks}
 use Rattle.mar_model.specs.Faults.{Fault, event_fault, is_by_value, meta_store, next_after, store_fault, want_of_memory, sync_kind, ticket_limit, ack_kind, TicketKind}
 use Rattle.mar_model.specs.Held.{Ending, Held, IsUsual, LeavesMore, LeavesPairsSince, Loses, WithinWritten, Written, blocks_left, ended_on, nothing_written, IsArchiveFault, written_pair, Watches}
-use Rattle.mar_model.specs.Lives.{NotBelow, is_dropped_ack, is_refused_floor, reached_before, later_round, reached_after}
+use Rattle.mar_model.specs.Lives.{AsksUntilCut, NotBelow, is_dropped_ack, is_refused_floor, reached_before, later_round, reached_after}
 use Rattle.mar_model.specs.Metadata.{Pair, first_pair, pair_of}
 use Rattle.mar_model.specs.Moves.{HearsFront, pruned_by, risen_to, tips_above, AreNextHeld, IsBelowWrites, handed_report, next_in}
 use Rattle.mar_model.specs.Node.{AreBlocksOf, AreFinalizationsOf, Ended, Node, ConsecutiveFrom}
 use Rattle.mar_model.specs.Promise.{CutsStep, Heard, IsGoodUntold, Waiting, made_of}
-use Rattle.mar_model.specs.Requests.{own_asks, raise_asks}
+use Rattle.mar_model.specs.Requests.{IsRepairFetch, may_repair, own_asks, raise_asks}
 use Rattle.mar_model.specs.Sound.{IsSafePair}
-use Rattle.mar_model.specs.Step.{AreHandedOf, AreTipsOf, HandedFrom, Report, TipsFrom, handed_blocks, handed_over, new_tip, HandedBlock, IsFront}
-use Rattle.mar_model.specs.Acts.{Act, AreLawful, CacheAct, IsCacheFault, IsDone, IsFaultIn, IsLost, Joins, LosesOver, StoreAct, reply, ask, caches, finish_sync, keep_notarization, keep_notarized, keeps_for, load_cache, mark, note, process, progresses, put_finalization, says, send, start_sync, store, store_late, stores, sync_progress, tell, written_cached, written_stored, IsCached, IsKeepFault, IsKept, IsStored, IsUnkept, KeepAct, finish_kept, keep_certified, keep_verified, written_kept}
-use Rattle.mar_model.specs.Ran.{Breaks, FailsRead, Reads, Task, does, dispatches, ends}
+use Rattle.mar_model.specs.Step.{AreHandedOf, AreTipsOf, HandedFrom, Report, TipsFrom, handed_blocks, HandedBlock, IsFront, IsBlockFrom, IsCertFrom}
+use Rattle.mar_model.specs.Acts.{Act, AreLawful, CacheAct, IsCacheFault, IsDone, IsFaultIn, IsLost, Joins, LosesOver, StoreAct, reply, ask, caches, finish_sync, keep_notarization, keep_notarized, keeps_for, load_cache, mark, note, process, progresses, put_finalization, says, send, start_sync, store, store_block, store_late, stores, sync_progress, sync_writes, tell, written_cached, written_stored, IsCached, IsKeepFault, IsKept, IsStored, IsUnkept, KeepAct, finish_kept, keep_certified, keep_verified, written_kept}
+use Rattle.mar_model.specs.Ran.{Breaks, FailsRead, Reads, Task, does, dispatches, ends, repairs}
+use Rattle.mar_model.proofs.Acting.{synced_as}
 use Rattle.mar_model.specs.Scene.{Scene, seen_of}
 use Rattle.mar_model.proofs.CachePrunes.{LeavesCache-pruned}
-use Rattle.mar_model.proofs.Tips.{tips_above-tips, tips_above-rise, tips_above-chain}
+use Rattle.mar_model.proofs.Tips.{both_chain, both_rise, both_tips, tips_above-tips, tips_above-rise, tips_above-chain}
 use Rattle.mar_model.proofs.FloorSafety.{next_after-is}
 use Rattle.mar_model.proofs.CacheOver.{OwnCache, LeavesCache-then}
 use Rattle.mar_model.proofs.Cutting.{LeavesStores, MayBeLeft, keeps_heights, keeps_sure, never, only_one, some_from_first, usual_not_by_value, usual_not_dropped, usual_from_archive, contains_first, Cuts-told}
@@ -43,21 +44,6 @@ use Rattle.mar_model.proofs.Owns.{answers_for, answers_in, asks_in, written_in, 
 use Rattle.mar_model.proofs.KeptEach.{told_kept}
 use Rattle.mar_model.proofs.Since.{LeavesSince, Since, Since-left, Since-joined, Since-refl}
 
-both_tips : (xs ys : List Report) → AreTips xs → AreTips ys → AreTips (xs ++ ys)
-both_tips [] ys first second = second
-both_tips (new_tip r h d ∷ xs) ys first second = both_tips xs ys first second
-both_tips (handed_over t b ∷ xs) ys first second = absurd first
-
-both_rise : (tip mid last : ℕ) (xs ys : List Report) → TipsFrom tip xs mid → TipsFrom mid ys last → TipsFrom tip (xs ++ ys) last
-both_rise tip mid last [] ys first second = subst (λ k. TipsFrom k ys last) first second
-both_rise tip mid last (new_tip r h d ∷ xs) ys first second = (first.0, both_rise h mid last xs ys first.1 second)
-both_rise tip mid last (handed_over t b ∷ xs) ys first second = both_rise tip mid last xs ys first second
-
-both_chain : (chain : Chain) (xs ys : List Report) → AreTipsOf chain xs → AreTipsOf chain ys → AreTipsOf chain (xs ++ ys)
-both_chain chain [] ys first second = second
-both_chain chain (new_tip r h d ∷ xs) ys first second = (first.0, first.1, both_chain chain xs ys first.2 second)
-both_chain chain (handed_over t b ∷ xs) ys first second = both_chain chain xs ys first second
-
 -- WHAT WAS SAID
 
 -- This was said since it began, and this is left to say of the whole.
@@ -66,7 +52,7 @@ pub record Said {T : Type 0} (first : Option (List T)) (left whole : List T) (no
   pub hears : Hears first said now
   pub whole_is : said ++ left ≡ whole
 
-Said-nothing : {T : Type 0} (first : Option (List T)) (left whole : List T) → left ≡ whole → Said first left whole first
+pub Said-nothing : {T : Type 0} (first : Option (List T)) (left whole : List T) → left ≡ whole → Said first left whole first
 Said-nothing first left whole is = record { said = []; hears = Hears-nothing first; whole_is = is }
 
 Said-more : {T : Type 0} (first : Option (List T)) (more left whole : List T) (now next : Option (List T)) → Said first (more ++ left) whole now → Hears now more next → Said first left whole next
@@ -78,6 +64,28 @@ Said-more first more left whole now next so hears = record {
 
 Said-front : {T : Type 0} (first : Option (List T)) (left whole : List T) (now next : Option (List T)) → Said first left whole now → HearsFront now left next → HearsFront first whole next
 Said-front first left whole now next so front = subst (λ xs. HearsFront first xs next) so.whole_is (HearsFront-then first so.said now left next so.hears front)
+
+-- a front of two lists is one of the first, or that and one of the second
+abbrev IsFrontOfBoth : {T : Type 0} → List T → List T → List T → Type 0
+IsFrontOfBoth xs ys front = IsFront front xs ⊎ ((some : List _) × (front ≡ xs ++ some) × IsFront some ys)
+
+first_and_rest : {T : Type 0} (x z : T) (xs zs : List T) → ◌≡◌ {A = List T} (x ∷ xs) (z ∷ zs) → (x ≡ z) × (xs ≡ zs)
+first_and_rest x z xs zs is = (cc, cc)
+
+front_on : {T : Type 0} (x z : T) (xs ys front : List T) → x ≡ z → IsFrontOfBoth xs ys front → IsFrontOfBoth (x ∷ xs) ys (z ∷ front)
+front_on x z xs ys front same (inl (left, whole)) = inl (left, ap₂ (λ u us. u ∷ us) same whole)
+front_on x z xs ys front same (inr (some, whole, later)) = inr (some, ap₂ (λ u us. u ∷ us) (sym same) whole, later)
+
+front_of_both : {T : Type 0} (xs ys front : List T) → IsFront front (xs ++ ys) → IsFrontOfBoth xs ys front
+front_of_both [] ys front split = inr (front, refl, split)
+front_of_both (x ∷ xs) ys [] split = inl (x ∷ xs, refl)
+front_of_both (x ∷ xs) ys (z ∷ front) (rest, is) =
+    let (same, later) = first_and_rest x z (xs ++ ys) (front ++ rest) is in
+    front_on x z xs ys front same (front_of_both xs ys front (rest, later))
+
+AllByRecursion-front : {T : Type 0} (P : T → Type 0) (xs ys : List T) → AllByRecursion P (xs ++ ys) → AllByRecursion P xs
+AllByRecursion-front P [] ys all = tt
+AllByRecursion-front P (x ∷ xs) ys all = (all.0, AllByRecursion-front P xs ys all.1)
 
 -- nothing more was said
 silent : {T : Type 0} (now next : Option (List T)) → next ≡ now → Hears now [] next
@@ -126,8 +134,8 @@ module _ (config : Config) (chain : Chain) (start : Scene) (e : Event) (buffer :
     pub cache : OwnCache config chain n e all.cached all.prunes
     pub of_blocks : AreBlocksOf chain all.blocks
     pub of_certs : AreFinalizationsOf chain all.certs
-    pub own_blocks : (x : At Block) → Contains all.blocks x → brought_block n e ≡ Some x.value
-    pub own_certs : (x : At Finalization) → Contains all.certs x → told_finalization n e ≡ Some x.value
+    pub own_blocks : (x : At Block) → Contains all.blocks x → IsBlockFrom n e x
+    pub own_certs : (x : At Finalization) → Contains all.certs x → IsCertFrom n e x
 
   -- What is said once of an event and of its plan.
   pub record IsOwned : Type 0 where
@@ -148,8 +156,24 @@ module _ (config : Config) (chain : Chain) (start : Scene) (e : Event) (buffer :
   usual_fits : (c : Course) (fault : Fault) → IsUsual fault → (c.pair ≡ own_pair start) ⊎ (fault ≡ store_fault meta_store → ⊥) → FaultFits c fault
   usual_fits c fault usual unsynced = record { cause = λ is. absurd (never (is_by_value fault) (usual_not_by_value fault usual) is); undropped = usual_not_dropped fault usual; unsynced = unsynced }
 
-  -- where these are all its answers
-  module _ (owned : IsOwned) (whole : List TicketAnswer) (answered : (lowest : ℕ) × IsFront whole (answers_of config n lowest e no_floor)) where
+  -- what it may ask beside its own: where it may repair, what a pass of repair asks for
+  abbrev pub AsksMore : List Call → Type 0
+  AsksMore more = (more ≡ []) ⊎ (IsTrue (may_repair e) × AllByRecursion (IsRepairFetch chain) more)
+
+  -- a front of both is what a cut may have asked
+  asked-until : (more asked : List Call) → AsksMore more → IsFront asked (own_asks config n e no_floor ++ more) → AsksUntilCut config chain n e no_floor asked
+  asked-until more asked (inl none) (rest, is) = inl (rest, sym (append-nil (own_asks config n e no_floor)) ∙ (ap (λ xs. own_asks config n e no_floor ++ xs) (sym none) ∙ is))
+  asked-until more asked (inr (may, are)) front = by (front_of_both (own_asks config n e no_floor) more asked front)
+    where
+      by : IsFrontOfBoth (own_asks config n e no_floor) more asked → AsksUntilCut config chain n e no_floor asked
+      by (inl own) = inl own
+      by (inr (some, is, (rest, split))) = inr (may, some, is, AllByRecursion-front (IsRepairFetch chain) some rest (subst (AllByRecursion (IsRepairFetch chain)) split are))
+
+  -- where these are all its answers, and this is what it asks beside its own
+  module _ (owned : IsOwned) (whole : List TicketAnswer) (answered : (lowest : ℕ) × IsFront whole (answers_of config n lowest e no_floor)) (more_asks : List Call) (asks_more : AsksMore more_asks) where
+    abbrev pub whole_asks : List Call
+    whole_asks = own_asks config n e no_floor ++ more_asks
+
     -- What the stores have become.
     pub record StoresSoFar (c : Course) (h : Held) : Type 0 where
       pub since : Since start.held all h
@@ -168,7 +192,7 @@ module _ (config : Config) (chain : Chain) (start : Scene) (e : Event) (buffer :
       pub tips_chain : AreTipsOf chain tips
 
     abbrev pub AskedSoFar : List Call → Option (List Call) → Type 0
-    AskedSoFar left asks = Said start.heard.asks left (own_asks config n e no_floor) asks
+    AskedSoFar left asks = Said start.heard.asks left whole_asks asks
 
     abbrev pub SentSoFar : List Sent → Option (List Sent) → Type 0
     SentSoFar left sends = Said start.heard.sends left (sends_of n e) sends
@@ -245,10 +269,10 @@ module _ (config : Config) (chain : Chain) (start : Scene) (e : Event) (buffer :
 
       pub Cuts-undelivered : Hears s.heard.reports [] heard.reports → HearsFront s.heard.asks (asks_in c.cutoff plan) heard.asks → HearsFront s.heard.sends (sends_in plan) heard.sends
           → heard.answers ≡ s.heard.answers → CutsStep config chain n (e ∷ []) start.heard heard x
-      Cuts-undelivered quiet asks sends unanswered = by (Said-front start.heard.asks (asks_in c.cutoff plan) (own_asks config n e no_floor) s.heard.asks heard.asks so.asks asks)
+      Cuts-undelivered quiet asks sends unanswered = by (Said-front start.heard.asks (asks_in c.cutoff plan) whole_asks s.heard.asks heard.asks so.asks asks)
           (Said-front start.heard.sends (sends_in plan) (sends_of n e) s.heard.sends heard.sends so.sends sends)
         where
-          by : HearsFront start.heard.asks (own_asks config n e no_floor) heard.asks → HearsFront start.heard.sends (sends_of n e) heard.sends → CutsStep config chain n (e ∷ []) start.heard heard x
+          by : HearsFront start.heard.asks whole_asks heard.asks → HearsFront start.heard.sends (sends_of n e) heard.sends → CutsStep config chain n (e ∷ []) start.heard heard x
           by (asked, front, asks_heard) (sent, sent_front, sends_heard) = record {
             made = record (made_of so.told.tips asked) { sends = sent; answers = so.answers.said };
             heard = record {
@@ -267,7 +291,8 @@ module _ (config : Config) (chain : Chain) (start : Scene) (e : Event) (buffer :
                 (some_from_first x.remains.ended.meta c.pair first)
                 (first_left c x.fault x.remains.ended.meta so.stores.pair_is fits.unsynced first)
                 (λ p has. may_be_left x.remains.ended leaves p (each_left c more s.held x.remains.ended pairs so.stores.pair_is within lost.pairs p has))
-                fits.cause (never (is_refused_floor e x.fault) (owned.unrefused x.fault)) (λ is. absurd (never (is_dropped_ack x.fault) fits.undropped is)) front;
+                fits.cause (never (is_refused_floor e x.fault) (owned.unrefused x.fault)) (λ is. absurd (never (is_dropped_ack x.fault) fits.undropped is))
+                (asked-until more_asks asked asks_more front);
           }
 
       -- the same was heard
@@ -307,6 +332,8 @@ module _ (config : Config) (chain : Chain) (start : Scene) (e : Event) (buffer :
 
     started_fits : (c : Course) (held : Held) (a : StoreAct) (fault : Fault) → IsFaultIn a held fault → FaultFits c fault
     started_fits c held (store f b) fault archive = archive_fits c fault archive
+    started_fits c held (store_block b) fault archive = archive_fits c fault archive
+    started_fits c held sync_writes fault archive = archive_fits c fault archive
     started_fits c held (store_late f b) fault archive = archive_fits c fault archive
     started_fits c held (finish_sync t) fault archive = archive_fits c fault archive
     started_fits c held start_sync fault (inl archive) = archive_fits c fault archive
@@ -483,6 +510,8 @@ module _ (config : Config) (chain : Chain) (start : Scene) (e : Event) (buffer :
 
     stored_stands : (inner : List ℕ → List ℕ) (a : StoreAct) (s t : Held) → IsStored inner a s t → (t.cache.loaded ≡ s.cache.loaded) × (stands_in t ≡ stands_in s)
     stored_stands inner (store f b) s t is = (ap (λ h. h.cache.loaded) is.same, ap stands_in is.same)
+    stored_stands inner (store_block b) s t is = (ap (λ h. h.cache.loaded) is.same, ap stands_in is.same)
+    stored_stands inner sync_writes s t is = let kept = (synced_as s.writes.uncovered s t is).0 in (ap (λ h. h.cache.loaded) kept, ap stands_in kept)
     stored_stands inner (store_late f b) s t is = (ap (λ h. h.cache.loaded) is.same, ap stands_in is.same)
     stored_stands inner start_sync s t is = (ap (λ h. h.cache.loaded) is, ap stands_in is)
     stored_stands inner (finish_sync k) s t is = (ap (λ h. h.cache.loaded) is.same, ap stands_in is.same)
@@ -537,7 +566,7 @@ module _ (config : Config) (chain : Chain) (start : Scene) (e : Event) (buffer :
       out = so.out;
       next_ack = so.next_ack;
       told = so.told;
-      asks = Said-more start.heard.asks (raise_asks c.cutoff (at_round r ∷ [])) (asks_in (noted_cutoff c r) plan) (own_asks config n e no_floor) s.heard.asks t.heard.asks so.asks
+      asks = Said-more start.heard.asks (raise_asks c.cutoff (at_round r ∷ [])) (asks_in (noted_cutoff c r) plan) whole_asks s.heard.asks t.heard.asks so.asks
           (subst (λ cs. Hears s.heard.asks cs t.heard.asks) (asked_as c (does (progresses (note r)) ∷ plan) s so r) asks);
       sends = so.sends;
       answers = so.answers;
@@ -560,7 +589,7 @@ module _ (config : Config) (chain : Chain) (start : Scene) (e : Event) (buffer :
     })
     Sound-act inner (says (ask calls)) c plan s t so owns (asks, same) = subst (SoFar c plan) (sym same)
         (heard_on c (does (says (ask calls)) ∷ plan) plan s (record s.heard { asks = t.heard.asks }) so so.told
-        (Said-more start.heard.asks calls (asks_in c.cutoff plan) (own_asks config n e no_floor) s.heard.asks t.heard.asks so.asks asks) so.sends so.answers)
+        (Said-more start.heard.asks calls (asks_in c.cutoff plan) whole_asks s.heard.asks t.heard.asks so.asks asks) so.sends so.answers)
     Sound-act inner (says (send y)) c plan s t so owns (sends, same) = subst (SoFar c plan) (sym same)
         (heard_on c (does (says (send y)) ∷ plan) plan s (record s.heard { sends = t.heard.sends }) so so.told so.asks
         (Said-more start.heard.sends (y ∷ []) (sends_in plan) (sends_of n e) s.heard.sends t.heard.sends so.sends sends) so.answers)
@@ -610,7 +639,7 @@ module _ (config : Config) (chain : Chain) (start : Scene) (e : Event) (buffer :
           (subst (λ k. HandedFrom x.remains.ended.blocks_sure s.life.next_ack k handed) next_height
           (HandedFrom-held s.held.blocks.held x.remains.ended.blocks_sure s.held.writes.uncovered s.life.next_ack (next_in (seen_of s)) handed height_left below next))
 
-      all_asked : so.asks.said ≡ own_asks config n e no_floor
+      all_asked : so.asks.said ≡ whole_asks
       all_asked = sym (append-nil so.asks.said) ∙ so.asks.whole_is
 
       all_sent : so.sends.said ≡ sends_of n e
@@ -638,7 +667,7 @@ module _ (config : Config) (chain : Chain) (start : Scene) (e : Event) (buffer :
             (λ p has. may_be_left x.remains.ended gone p (each_left c nothing_written s.held x.remains.ended (ap (λ (z : Stands). z.pairs) so.stores.stands) so.stores.pair_is
             (WithinWritten-nothing all) lost.leaves.pairs p has))
             fits.cause (never (is_refused_floor e x.fault) (owned.unrefused x.fault)) (λ is. absurd (never (is_dropped_ack x.fault) fits.undropped is))
-            ([], sym all_asked ∙ sym (append-nil so.asks.said));
+            (asked-until more_asks so.asks.said asks_more ([], sym all_asked ∙ sym (append-nil so.asks.said)));
       }
 
     stopped_fits : {T : Type 0} (c : Course) (fault : Fault) → IsArchiveFault fault ⊎ ((fault ≡ ticket_limit ack_kind) × T) → FaultFits c fault
@@ -668,6 +697,7 @@ module _ (config : Config) (chain : Chain) (start : Scene) (e : Event) (buffer :
     Cuts-ran inner (does a ∷ plan) c s so owns x heard (inr (mid, reads, inl fails)) = Lost-act a c plan mid (SoFar-read c (does a ∷ plan) s mid so reads) owns x heard fails
     Cuts-ran inner (does a ∷ plan) c s so owns x heard (inr (mid, reads, inr (after, did, breaks))) =
         Cuts-ran inner plan (after_task c (does a)) after (Sound-act inner a c plan mid after (SoFar-read c (does a ∷ plan) s mid so reads) owns did) (owns_rest a c plan owns) x heard breaks
+    Cuts-ran inner (repairs blocks ∷ plan) c s so owns x heard (inr broke) = absurd owns
     Cuts-ran inner (dispatches ∷ []) c s so owns x heard (inr (mid, reads, inl fails)) =
         Cuts-handing c mid (SoFar-read c (dispatches ∷ []) s mid so reads) owns.1 owns.2 owns.3 fails.handed x heard fails.stops.next fails.stops.below_barrier fails.stops.lost (stopped_fits c x.fault fails.stops.kind) fails.told fails.same
     Cuts-ran inner (dispatches ∷ []) c s so owns x heard (inr (mid, reads, inr (after, hands, fails))) =
@@ -683,7 +713,7 @@ module _ (config : Config) (chain : Chain) (start : Scene) (e : Event) (buffer :
     Cuts-ran inner (ends fault ∷ plan) c s so owns x heard (inr (mid, reads, inr (after, did, breaks))) = absurd did
 
     -- as an event begins
-    pub SoFar-first : (plan : List Task) → AreLawful start.held → start.held.cache.loaded ≡ true → asks_in start.held.cutoff plan ≡ own_asks config n e no_floor → sends_in plan ≡ sends_of n e
+    pub SoFar-first : (plan : List Task) → AreLawful start.held → start.held.cache.loaded ≡ true → asks_in start.held.cutoff plan ≡ whole_asks → sends_in plan ≡ sends_of n e
         → answers_in start.held plan ≡ whole → SoFar (course_of start) plan start
     SoFar-first plan law loaded asks sends answers = record {
       stores = record {
@@ -698,15 +728,22 @@ module _ (config : Config) (chain : Chain) (start : Scene) (e : Event) (buffer :
       out = refl;
       next_ack = refl;
       told = record { tips = []; told = Hears-nothing start.heard.reports; are_tips = tt; rise = refl; tips_chain = tt };
-      asks = Said-nothing start.heard.asks (asks_in start.held.cutoff plan) (own_asks config n e no_floor) asks;
+      asks = Said-nothing start.heard.asks (asks_in start.held.cutoff plan) whole_asks asks;
       sends = Said-nothing start.heard.sends (sends_in plan) (sends_of n e) sends;
       answers = Said-nothing (Some start.heard.answers) (answers_in start.held plan) whole answers;
     }
+
+  -- what breaks a plan that asks beside its own asks what a pass of repair asks for
+  pub Cuts-repairing : IsOwned → (inner : List ℕ → List ℕ) (plan : List Task) → AreLawful start.held → start.held.cache.loaded ≡ true → (more : List Call) → AsksMore more
+      → asks_in start.held.cutoff plan ≡ own_asks config n e no_floor ++ more → sends_in plan ≡ sends_of n e → (lowest : ℕ) × IsFront (answers_in start.held plan) (answers_of config n lowest e no_floor)
+      → Owns config chain n e all start.life.sizes.retention (own_pair start) (course_of start) plan → (x : Ending) (heard : Heard) → Breaks inner start plan x heard
+      → CutsStep config chain n (e ∷ []) start.heard heard x
+  Cuts-repairing owned inner plan law loaded more asks_more asks sends answered owns x heard breaks =
+      let whole = answers_in start.held plan in
+      Cuts-ran owned whole answered more asks_more inner plan (course_of start) start (SoFar-first owned whole answered more asks_more plan law loaded asks sends refl) owns x heard breaks
 
   pub Cuts-plan : IsOwned → (inner : List ℕ → List ℕ) (plan : List Task) → AreLawful start.held → start.held.cache.loaded ≡ true → asks_in start.held.cutoff plan ≡ own_asks config n e no_floor
       → sends_in plan ≡ sends_of n e → (lowest : ℕ) × IsFront (answers_in start.held plan) (answers_of config n lowest e no_floor)
       → Owns config chain n e all start.life.sizes.retention (own_pair start) (course_of start) plan → (x : Ending) (heard : Heard) → Breaks inner start plan x heard
       → CutsStep config chain n (e ∷ []) start.heard heard x
-  Cuts-plan owned inner plan law loaded asks sends answered owns x heard breaks =
-      let whole = answers_in start.held plan in
-      Cuts-ran owned whole answered inner plan (course_of start) start (SoFar-first owned whole answered plan law loaded asks sends refl) owns x heard breaks
+  Cuts-plan owned inner plan law loaded asks = Cuts-repairing owned inner plan law loaded [] (inl refl) (asks ∙ sym (append-nil (own_asks config n e no_floor)))

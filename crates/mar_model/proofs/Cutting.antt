@@ -12,19 +12,18 @@ use Rattle.mar_key.specs.Processed.{height_in}
 use Rattle.mar_model.specs.Metadata.{Pair, first_pair, pair_of}
 use Rattle.mar_model.specs.Chain.{Chain, Finalizes, IsBlockAt}
 use Rattle.mar_model.specs.Config.{Config}
-use Rattle.mar_model.specs.Event.{Event, brought_block, cutoff_after, effect_of, no_floor, processed_after, told_finalization}
+use Rattle.mar_model.specs.Event.{Event, cutoff_after, effect_of, no_floor, processed_after}
 use Rattle.mar_model.specs.Faults.{Fault, corrupt, damaged, dropped_ack, event_fault, floor_epoch_unavailable, floor_invalid, floor_parent_mismatch, genesis_height, genesis_mismatch, height_limit, is_by_value, meta_store, next_after, store_fault, sync_kind, ticket_limit, unbacked, want_of_memory}
 use Rattle.mar_model.specs.Cache.{MayBeCached, certified_from, is_below, is_certified_below, is_pruned, witnessing_of}
 use Rattle.mar_model.specs.Cached.{Cached, cached_block, cached_finalization, epoch_of}
 use Rattle.mar_model.specs.Held.{Ending, IsArchiveFault, IsUsual, LeavesCache, LeavesStore, Loses, Seen, Written, blocks_left, cache_left, certs_left}
-use Rattle.mar_model.specs.Lives.{Cuts, CutsBy, IsGoodEnded, NotBelow, Reached, is_dropped_ack, is_refused_floor, reached_after, reached_before}
+use Rattle.mar_model.specs.Lives.{AsksUntilCut, Cuts, CutsBy, IsGoodEnded, NotBelow, Reached, is_dropped_ack, is_refused_floor, reached_after, reached_before}
 use Rattle.mar_model.specs.Node.{Agrees, AreBlocksOf, AreFinalizationsOf, Ended, IsFinalized, IsGood, Node}
 use Rattle.mar_model.specs.Answers.{Sent, answers_of, sends_of, TicketAnswer}
 use Rattle.mar_model.specs.Promise.{Waiting, made_of, node_of}
-use Rattle.mar_model.specs.Requests.{own_asks}
 use Rattle.mar_model.specs.Sound.{IsSafePair, IsSound}
-use Rattle.mar_model.specs.Step.{AreHandedOf, AreTipsOf, HandedFrom, IsFront, Report, TipsFrom, handed_blocks, nothing_made}
-use Rattle.mar_model.proofs.Reaching.{AreTips, no_handed, block_from, cert_from}
+use Rattle.mar_model.specs.Step.{AreHandedOf, AreTipsOf, HandedFrom, IsFront, Report, TipsFrom, handed_blocks, nothing_made, IsBlockFrom, IsCertFrom}
+use Rattle.mar_model.proofs.Reaching.{AreTips, no_handed, put_from}
 use Rattle.mar_model.proofs.CacheChanges.{any_within, map_within}
 use Rattle.mar_model.proofs.CacheOver.{OwnCache}
 use Rattle.mar_model.proofs.Filtered.{all_found_put}
@@ -47,8 +46,8 @@ pub record LeavesStores (config : Config) (chain : Chain) (n : Node) (e : Event)
   pub certs : LeavesStore n.certs 0 put_certs (certs_left left)
   pub of_blocks : AreBlocksOf chain put_blocks
   pub of_certs : AreFinalizationsOf chain put_certs
-  pub own_blocks : (x : At Block) → Contains put_blocks x → brought_block n e ≡ Some x.value
-  pub own_certs : (x : At Finalization) → Contains put_certs x → told_finalization n e ≡ Some x.value
+  pub own_blocks : (x : At Block) → Contains put_blocks x → IsBlockFrom n e x
+  pub own_certs : (x : At Finalization) → Contains put_certs x → IsCertFrom n e x
   pub put_cached : List Cached
   pub prunes : List Round
   pub own_cache : OwnCache config chain n e put_cached prunes
@@ -116,11 +115,11 @@ module _ {P E : Type 0} (config : Config) (chain : Chain) (a : Seen P E) (e : Ev
         → AreHandedOf chain left.blocks_sure (handed_blocks reports) → LeavesStores config chain n e left → 0 < length left.meta
         → (first_pair left.meta ≡ first_pair a.held.pairs) ⊎ (fault ≡ store_fault meta_store → ⊥) × (first_pair left.meta ≡ Some after) → ((p : Pair) → Contains left.meta p
         → MayBeLeft left.blocks_sure p) → (IsTrue (is_by_value fault) → event_fault config n e ≡ Some fault) → (IsTrue (is_refused_floor e fault) → ⊥)
-        → (IsTrue (is_dropped_ack fault) → left.meta ≡ a.held.pairs) → IsFront asks (own_asks config n e no_floor)
+        → (IsTrue (is_dropped_ack fault) → left.meta ≡ a.held.pairs) → AsksUntilCut config chain n e no_floor asks
         → Cuts config chain n (e ∷ []) (record (made_of reports asks) { sends = sends; answers = answers }) fault left
 
     pub Cuts-told : (answers : List TicketAnswer) → ((lowest : ℕ) × IsFront answers (answers_of config n lowest e no_floor)) → CutsOf answers
-    Cuts-told answers answered reports asks tip reached fault left tips tips_chain reached_is in_order hands_chain leaves some first pairs cause refused unsynced front = record {
+    Cuts-told answers answered reports asks tip reached fault left tips tips_chain reached_is in_order hands_chain leaves some first pairs cause refused unsynced asked = record {
       finished = [];
       event = e;
       others = [];
@@ -192,13 +191,13 @@ module _ {P E : Type 0} (config : Config) (chain : Chain) (a : Seen P E) (e : Ev
           may = record {
             held_blocks = λ h low has. held_may_heights a.held.blocks leaves.put_blocks (blocks_left left) leaves.blocks h (omega arith) has;
             held_certs = λ h low has. held_may_heights a.held.certs leaves.put_certs (certs_left left) leaves.certs h (omega arith) has;
-            blocks = λ x has. block_from n e a.held.blocks.may leaves.put_blocks leaves.own_blocks x (leaves.blocks.may x has);
-            certs = λ x has. cert_from n e a.held.certs.may leaves.put_certs leaves.own_certs x (leaves.certs.may x has);
+            blocks = λ x has. put_from (IsBlockFrom n e) a.held.blocks.may leaves.put_blocks leaves.own_blocks x (leaves.blocks.may x has);
+            certs = λ x has. put_from (IsCertFrom n e) a.held.certs.may leaves.put_certs leaves.own_certs x (leaves.certs.may x has);
             sure_blocks = sure_may_heights a.held.blocks leaves.put_blocks (blocks_left left) leaves.blocks;
             sure_certs = sure_may_heights a.held.certs leaves.put_certs (certs_left left) leaves.certs;
             cached = may_cached;
           };
-          asks = front;
+          asks = asked;
           sends = sent;
           answers = answered;
           first_pair = first;
@@ -212,12 +211,12 @@ module _ {P E : Type 0} (config : Config) (chain : Chain) (a : Seen P E) (e : Ev
     Cuts-left = Cuts-told [] (0, (answers_of config n 0 e no_floor, refl))
 
     -- A call failed before any block was handed over; `written` has the pairs that a failed sync was to write.
-    pub Cuts-before : (tips : List Report) (asks : List Call) (tip : ℕ) (written : Written) (left : Ending) → AreTips tips → TipsFrom a.life.tip tips tip → AreTipsOf chain tips → written.blocks_from ≡ 0 → written.certs_from ≡ 0 → OwnCache config chain n e written.cached written.prunes → AreBlocksOf chain written.blocks → AreFinalizationsOf chain written.certs → ((x : At Block) → Contains written.blocks x → brought_block n e ≡ Some x.value) → ((x : At Finalization) → Contains written.certs x → told_finalization n e ≡ Some x.value) → Loses a.held written left → ((p : Pair) → Contains written.pairs p → MayBeLeft left.remains.ended.blocks_sure p) → (IsTrue (is_by_value left.fault) → event_fault config n e ≡ Some left.fault) → (IsTrue (is_refused_floor e left.fault) → ⊥) → (IsTrue (is_dropped_ack left.fault) → left.remains.ended.meta ≡ a.held.pairs) → IsFront asks (own_asks config n e no_floor) → Cuts config chain n (e ∷ []) (record (made_of tips asks) { sends = sends }) left.fault left.remains.ended
-    Cuts-before tips asks tip written left only tips_rise tips_chain no_prune no_cert_prune own_cache of_blocks of_certs own_blocks own_certs lost new cause refused unsynced front =
+    pub Cuts-before : (tips : List Report) (asks : List Call) (tip : ℕ) (written : Written) (left : Ending) → AreTips tips → TipsFrom a.life.tip tips tip → AreTipsOf chain tips → written.blocks_from ≡ 0 → written.certs_from ≡ 0 → OwnCache config chain n e written.cached written.prunes → AreBlocksOf chain written.blocks → AreFinalizationsOf chain written.certs → ((x : At Block) → Contains written.blocks x → IsBlockFrom n e x) → ((x : At Finalization) → Contains written.certs x → IsCertFrom n e x) → Loses a.held written left → ((p : Pair) → Contains written.pairs p → MayBeLeft left.remains.ended.blocks_sure p) → (IsTrue (is_by_value left.fault) → event_fault config n e ≡ Some left.fault) → (IsTrue (is_refused_floor e left.fault) → ⊥) → (IsTrue (is_dropped_ack left.fault) → left.remains.ended.meta ≡ a.held.pairs) → AsksUntilCut config chain n e no_floor asks → Cuts config chain n (e ∷ []) (record (made_of tips asks) { sends = sends }) left.fault left.remains.ended
+    Cuts-before tips asks tip written left only tips_rise tips_chain no_prune no_cert_prune own_cache of_blocks of_certs own_blocks own_certs lost new cause refused unsynced asked =
         Cuts-left tips asks tip (reached_before n e) left.fault left.remains.ended tips_rise tips_chain (inl refl)
         (subst (λ xs. HandedFrom left.remains.ended.blocks_sure a.life.next_ack (next_after (option_map height_in a.held.processed) + length (reached_before n e).out) xs) (sym none) tt)
         (subst (λ xs. AreHandedOf chain left.remains.ended.blocks_sure xs) (sym none) tt)
-        leaves (some_from_first left.remains.ended.meta own first) (inl lost.leaves.pairs.first) each cause refused unsynced front
+        leaves (some_from_first left.remains.ended.meta own first) (inl lost.leaves.pairs.first) each cause refused unsynced asked
       where
         none : handed_blocks tips ≡ []
         none = no_handed tips only
@@ -295,11 +294,6 @@ usual_not_dropped (ticket_limit k) usual = absurd usual
 pub unstarted_plain : {T : Type 0} (fault : Fault) → IsArchiveFault fault ⊎ ((fault ≡ ticket_limit sync_kind) × T) → (is_by_value fault ≡ false) × (is_dropped_ack fault ≡ false)
 unstarted_plain fault (inl archive) = (usual_not_by_value fault (usual_from_archive fault archive), usual_not_dropped fault (usual_from_archive fault archive))
 unstarted_plain fault (inr limit) = (ap is_by_value limit.0, ap is_dropped_ack limit.0)
-
--- nor that of an entry that could not be kept
-pub unkept_plain : {T : Type 0} (fault : Fault) → IsUsual fault ⊎ ((fault ≡ ticket_limit sync_kind) × T) → (is_by_value fault ≡ false) × (is_dropped_ack fault ≡ false)
-unkept_plain fault (inl usual) = (usual_not_by_value fault usual, usual_not_dropped fault usual)
-unkept_plain fault (inr limit) = (ap is_by_value limit.0, ap is_dropped_ack limit.0)
 
 pub never : (b : Bool) → b ≡ false → IsTrue b → ⊥
 never b off on = let both : false ≡ true = sym off ∙ on in cc

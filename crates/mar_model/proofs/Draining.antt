@@ -1,5 +1,5 @@
 -- Acknowledged blocks that are processed one after another.
-use Rattle.std.proofs.Common.{◌≡◌, ℕ, suc, ◌+◌, ◌≤◌, List, [], ◌∷◌, ◌++◌, length, flat_map, fold, Contains, Bool, true, false, if◌then◌else◌, nat_lt, is_some, Option, Some, None, option_to_list, refl, sym, ◌∙◌, ap, ap₂, subst, arith, append_assoc, append-nil, length-append}
+use Rattle.std.proofs.Common.{◌≡◌, ℕ, suc, ◌+◌, List, [], ◌∷◌, ◌++◌, length, flat_map, fold, Contains, Bool, true, false, if◌then◌else◌, nat_lt, is_some, Option, Some, None, option_to_list, refl, sym, ◌∙◌, ap, ap₂, subst, arith, append_assoc, append-nil, length-append}
 use Rattle.std.proofs.lemmas.Bool.Decides.{nat_tests}
 use Rattle.std.proofs.lemmas.Grind.{flat_map-append}
 use Rattle.std.proofs.lemmas.List.Elements.{Contains-append_left, Contains-append_right}
@@ -87,10 +87,6 @@ both_parts (a ∷ out) = by (is_given a.mark) (both_parts out)
     by : (b : Bool) → length (given_front out) + length (after_given out) ≡ length out → length (if b then a ∷ given_front out else []) + length (if b then after_given out else a ∷ out) ≡ suc (length out)
     by true rest = omega arith
     by false rest = omega arith
-
-empty_list : {T : Type 0} (xs : List T) → length xs ≡ 0 → xs ≡ []
-empty_list [] e = refl
-empty_list (x ∷ xs) e = absurd (omega arith)
 
 -- WHAT IS ASKED AND WITNESSED
 
@@ -268,30 +264,3 @@ module _ {P E : Type 0} (epochs_of : E → Epochs) (start now : Seen P E) (told 
 
       all : so_far.done ++ one ≡ given_front start.life.out
       all = ap (λ zs. so_far.done ++ zs) (none_oldest now.life.out none) ∙ (append-nil so_far.done ∙ done_is)
-
-  -- as many were processed as there were
-  pub Drains-all : length start.life.out ≤ count → Drains epochs start drained now × Hears told (retire_asks epochs start.held.certs.held start.held.cutoff (given_front start.life.out)) told'
-  Drains-all full = (
-    record {
-      prunes = subst (λ zs. PrunesProcessed start zs now.held) done_is so_far.prunes;
-      same = so_far.same ∙ (ap (λ zs. with_processed epochs start zs now.life.out now.held) done_is ∙ ap (λ o. with_processed epochs start (given_front start.life.out) o now.held) (none_left ∙ sym none_behind));
-      drained = so_far.is_drained ∙ ap (λ zs. nat_lt 0 (length zs)) done_is;
-      not_dropped = ap dropped_oldest none_behind;
-    },
-    subst (λ zs. Hears told (retire_asks epochs start.held.certs.held start.held.cutoff zs) told') done_is so_far.heard,
-  )
-    where
-      parts : length so_far.done + length (given_front now.life.out) ≡ length (given_front start.life.out)
-      parts = sym (length-append so_far.done (given_front now.life.out)) ∙ ap length (sym so_far.front)
-
-      none_more : given_front now.life.out ≡ []
-      none_more = empty_list (given_front now.life.out) (let sum : length (given_front start.life.out) + length (after_given start.life.out) ≡ length start.life.out = both_parts start.life.out in let p : length so_far.done + length (given_front now.life.out) ≡ length (given_front start.life.out) = parts in let k : count ≡ length so_far.done = so_far.counted in omega arith)
-
-      none_behind : after_given start.life.out ≡ []
-      none_behind = empty_list (after_given start.life.out) (let sum : length (given_front start.life.out) + length (after_given start.life.out) ≡ length start.life.out = both_parts start.life.out in let p : length so_far.done + length (given_front now.life.out) ≡ length (given_front start.life.out) = parts in let k : count ≡ length so_far.done = so_far.counted in omega arith)
-
-      none_left : now.life.out ≡ []
-      none_left = empty_list now.life.out (let sum : length (given_front now.life.out) + length (after_given now.life.out) ≡ length now.life.out = both_parts now.life.out in let f : length (given_front now.life.out) ≡ 0 = ap length none_more in let b : length (after_given now.life.out) ≡ 0 = ap length (so_far.rest ∙ none_behind) in omega arith)
-
-      done_is : so_far.done ≡ given_front start.life.out
-      done_is = sym (append-nil so_far.done) ∙ (ap (λ zs. so_far.done ++ zs) (sym none_more) ∙ sym so_far.front)

@@ -1,9 +1,8 @@
 -- Plans of the events, part by part: which one it is by what stands.
-use Rattle.std.proofs.Common.{◌≡◌, ◌∷◌, ◌++◌, [], List, Option, None, Some, Bool, true, false, cond, is_some, length, ℕ, ◌+◌, arith, refl, sym, ◌∙◌, ap, subst, append-nil, append_assoc}
+use Rattle.std.proofs.Common.{◌≡◌, ◌∷◌, ◌++◌, [], List, Option, None, Some, Bool, true, false, cond, is_some, length, ℕ, ◌+◌, arith, refl, sym, ap, subst, append_assoc}
 use Rattle.mar_cert.specs.Finalization.{Finalization}
 use Rattle.mar_store.specs.Kept.{At}
 use Rattle.mar_model.specs.Acks.{Mark, Outstanding, after_oldest, dropped_oldest, given_oldest, is_dropped, is_given, mark_dropped, mark_given, mark_waiting}
-use Rattle.mar_model.specs.Cached.{Cached}
 use Rattle.mar_model.specs.Faults.{dropped_ack}
 use Rattle.mar_model.specs.Held.{Held}
 use Rattle.mar_model.specs.Node.{CacheSync}

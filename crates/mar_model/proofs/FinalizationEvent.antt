@@ -1,20 +1,20 @@
 -- A reported finalization: its block isn't at hand, or is stored above the processed height, or is noted at or below it.
-use Rattle.std.proofs.Common.{◌≡◌, ◌⊎◌, inl, inr, ℕ, zero, suc, ◌+◌, ◌-◌, ◌^◌, ◌<◌, ◌≤◌, List, [], ◌∷◌, ◌++◌, length, map, drop, fold, Bool, true, false, ◌&&◌, ◌||◌, not, ◌==◌, nat_lt, if◌then◌else◌, Option, Some, None, is_some, option_map, option_to_list, IfSome, IsTrue, IsFalse, Contains, bytes_eq, slice_get, refl, sym, ◌∙◌, ap, subst, arith, append-nil, le_refl, eqb-true, eq-eqb, length-append}
-use Rattle.std.specs.List.{AllByRecursion, filter_map, list_any}
+use Rattle.std.proofs.Common.{◌≡◌, ◌⊎◌, inl, inr, ℕ, zero, ◌-◌, ◌^◌, ◌<◌, ◌≤◌, List, [], ◌∷◌, ◌++◌, length, map, drop, fold, Bool, true, false, ◌&&◌, ◌||◌, not, ◌==◌, nat_lt, if◌then◌else◌, Option, Some, None, is_some, option_map, option_to_list, IfSome, IsTrue, IsFalse, Contains, bytes_eq, slice_get, refl, sym, ◌∙◌, ap, subst, arith, append-nil, eqb-true, eq-eqb}
+use Rattle.std.specs.List.{filter_map, list_any}
 use Rattle.std.specs.Option.{option_or}
-use Rattle.std.proofs.lemmas.List.Elements.{Contains-append_left, Contains-append_right}
+use Rattle.std.proofs.lemmas.List.Elements.{Contains-append_right}
 use Rattle.mar_types.specs.Epochs.{IsPartition}
 use Rattle.mar_types.specs.Round.{Round, round_lt}
 use Rattle.mar_cert.specs.Block.{Block}
 use Rattle.mar_cert.specs.Finalization.{Finalization}
 use Rattle.mar_gate.specs.Writing.{total_writes}
 use Rattle.mar_store.specs.Kept.{At, Kept, has_height, value_at}
-use Rattle.mar_store.specs.Changes.{IsNested, KeepsValues, left_of}
+use Rattle.mar_store.specs.Changes.{IsNested, left_of}
 use Rattle.mar_store.proofs.Lookups.{AllByRecursion-contains, AllByRecursion-weaker, Contains-from_value, has_height-from_contains, value-from_has_height, value_at-append}
 use Rattle.mar_key.specs.Cutoff.{Cutoff, at_round, greatest_of}
-use Rattle.mar_key.specs.Processed.{first_unprocessed, height_in, height_of}
+use Rattle.mar_key.specs.Processed.{height_in, height_of}
 use Rattle.mar_model.specs.Messages.{report_finalization}
-use Rattle.mar_model.specs.Metadata.{Pair, pair_of}
+use Rattle.mar_model.specs.Metadata.{pair_of}
 use Rattle.mar_model.specs.Stored.{at_own_height, block_of, is_certified, is_held}
 use Rattle.mar_model.specs.Cached.{cached_finalization}
 use Rattle.mar_model.specs.Answers.{served_answers, unserved_subscriptions}
@@ -23,27 +23,26 @@ use Rattle.mar_model.specs.Chain.{Chain, Finalizes, IsBlockAt, IsFinal, IsLawful
 use Rattle.mar_model.specs.Config.{Config}
 use Rattle.mar_model.specs.Event.{Event, Met, Storing, cutoff_after, message_told, met_finalization, met_of, met_rounds, no_floor, own_writes, processed_after, storing_of, told_finalization}
 use Rattle.mar_model.specs.Faults.{height_limit, last_height, storing_fault}
-use Rattle.mar_model.specs.Held.{AreCached, AreWritten, Held, HeldCache, Seen}
+use Rattle.mar_model.specs.Held.{AreCached, Held, HeldCache, Seen}
 use Rattle.mar_model.specs.Lives.{later_round}
-use Rattle.mar_model.specs.Moves.{CachesFinalization, IsRead, IsStarted, PrunesCacheBy, PutsAbove, RaisesTo, StoresLate, StoresValue, StoresWhere, at_height, lacks_finalization, late_tip, late_tips, pruned_by, tip_after, tip_reports, with_cache_of, with_watches}
-use Rattle.mar_model.specs.Node.{AreBlocksOf, AreFinalizationsOf, AreNestedHeights, FloorSafe, IsCacheOf, IsFinalized, IsGood, Node, OpenSync, Rest, SureOrWritten, at_hand, block_missing, floor_awaited, window_full, write_uncovered}
+use Rattle.mar_model.specs.Moves.{CachesFinalization, IsRead, PrunesCacheBy, PutsAbove, RaisesTo, StoresLate, StoresValue, StoresWhere, at_height, lacks_finalization, late_tip, late_tips, pruned_by, tip_reports, with_cache_of, with_watches}
+use Rattle.mar_model.specs.Node.{AreBlocksOf, AreNestedHeights, FloorSafe, IsCacheOf, IsFinalized, IsGood, Node, OpenSync, SureOrWritten, at_hand}
 use Rattle.mar_model.specs.Promise.{AreOne, Waiting, node_of, known_blocks}
-use Rattle.mar_model.specs.Requests.{own_asks, raise_asks, reported_asks, want_asks}
+use Rattle.mar_model.specs.Requests.{own_asks, raise_asks, reported_asks, want_asks, awaits_no_more, is_pass}
 use Rattle.mar_model.specs.Sound.{IsSafePair}
 use Rattle.mar_model.specs.Step.{AreTipsOf, CertificatesFrom, EntersAt, IsCertFrom, IsStored, IsStoredLate, KeepsFrom, Report, TipsFrom, Writes, is_repaired, own_heights}
 use Rattle.mar_model.proofs.AtHand.{at_hand-commitment, block_of_final, bytes_same}
 use Rattle.mar_model.proofs.CacheOver.{IsCacheOf-put, MovesCache, cached_as, moves_reported}
 use Rattle.mar_model.proofs.CachePrunes.{IsCacheOf-pruned, PrunesCacheBy-beside, PrunesCacheBy-none}
-use Rattle.mar_model.proofs.Cutting.{MayBeLeft, keeps_heights, only_one, sure_may_heights}
-use Rattle.mar_model.proofs.FloorSafety.{FloorSafe-still, KeepsHeightsFrom, MeetsFinal}
+use Rattle.mar_model.proofs.Cutting.{keeps_heights, only_one, sure_may_heights}
+use Rattle.mar_model.proofs.FloorSafety.{MeetsFinal}
 use Rattle.mar_model.proofs.FoundBlocks.{Contains-slice_get, chain_known}
 use Rattle.mar_model.proofs.KnownBlocks.{at_hand-known, known_agrees}
 use Rattle.mar_model.proofs.PairsAfter.{IsSafePair-after}
 use Rattle.mar_model.proofs.Growing.{Grown, Grown-same}
 use Rattle.mar_model.proofs.PlainEvents.{Certificates-same, EntersAt-same, KeepsFrom-same, Writes-same, nothing_put}
-use Rattle.mar_model.proofs.Reaching.{AreTips, Reaches, some_first}
-use Rattle.mar_model.proofs.Soundness.{IsSafePair-kept, from_none}
-use Rattle.mar_model.proofs.StoredValues.{stored_height, entered_height, missing_stays, all_held, all_may, KeepsFrom-put, found_place, any_place, either_test, due_height, KeepsFrom-due, held_due, may_due, sure_due}
+use Rattle.mar_model.proofs.Reaching.{AreTips, Reaches, some_first, brought_from, told_from}
+use Rattle.mar_model.proofs.StoredValues.{stored_height, entered_height, KeepsFrom-put, found_place, any_place, either_test, due_height, KeepsFrom-due, held_due, may_due, sure_due}
 use Rattle.mar_model.proofs.Tips.{above_from, low_from, tip_after-high, tip_reports-chain, tip_reports-rise, tip_reports-tips}
 use Rattle.mar_model.proofs.StillGood.{IsGood-with, IsGood-grown}
 
@@ -157,7 +156,7 @@ nested_heights {T = T} kept is = record { sure_held = λ h has. keeps_heights ke
     by h (v, at) = has_height-from_contains kept.may (record { height = h; value = v }) (is.held_may _ (Contains-from_value kept.held h v at))
 
 -- the last position
-last_position : (syncs : List OpenSync) (s : OpenSync) → Contains (map (λ u. u.position) (syncs ++ s ∷ [])) s.position
+pub last_position : (syncs : List OpenSync) (s : OpenSync) → Contains (map (λ u. u.position) (syncs ++ s ∷ [])) s.position
 last_position [] s = (zero, omega arith, refl)
 last_position (u ∷ syncs) s = Contains-append_right (u.position ∷ []) (map (λ v. v.position) (syncs ++ s ∷ [])) s.position (last_position syncs s)
 
@@ -279,8 +278,19 @@ module _ {P E : Type 0} (config : Config) (chain : Chain) (a : Seen P E) (f : Fi
     rounds_at b is c above = rounds_by (Some b) is ∙ ap (λ (d : Bool). if d then [] else f.round ∷ []) above
 
     -- what is stored
-    storing_by : (o : Option Block) → at_hand n f.payload ≡ o → storing_of n e ≡ option_map storing_met (option_map (λ b. met_of b f) o)
+    pub storing_by : (o : Option Block) → at_hand n f.payload ≡ o → storing_of n e ≡ option_map storing_met (option_map (λ b. met_of b f) o)
     storing_by o is = ap (λ p. option_map storing_met (option_map (λ b. met_of b f) p)) is
+
+    -- gaps are filled where it is stored above the processed height
+    abbrev passes_for : Node → Option Storing → Bool
+    passes_for n' s = nat_lt 0 (length (own_writes n s no_floor)) || awaits_no_more n.awaited n'.awaited
+
+    pub pass-absent : at_hand n f.payload ≡ None → (n' : Node) → is_pass n e no_floor n' ≡ false
+    pass-absent none n' = ap (passes_for n') (storing_by None none)
+
+    pub pass-at : (b : Block) → at_hand n f.payload ≡ Some b → (c : Bool) → nat_lt (height_of a.held.processed) b.height ≡ c → (n' : Node) → is_pass n e no_floor n' ≡ c
+    pass-at b is true above n' = ap (passes_for n') (storing_by (Some b) is) ∙ ap (λ (c : Bool). nat_lt 0 (length (if c then b.height ∷ [] else [])) || awaits_no_more n.awaited n'.awaited) above
+    pass-at b is false low n' = ap (passes_for n') (storing_by (Some b) is) ∙ ap (λ (c : Bool). nat_lt 0 (length (if c then b.height ∷ [] else [])) || awaits_no_more n.awaited n'.awaited) low
 
     -- the cutoff after it, the round witnessed last, and what is asked, by the rounds that are met
     cutoff_by : (rs : List Round) → met_rounds n (met_finalization n e) ≡ rs → cutoff_after config n e no_floor ≡ greatest_of a.held.cutoff (map at_round rs)
@@ -355,10 +365,6 @@ module _ {P E : Type 0} (config : Config) (chain : Chain) (a : Seen P E) (f : Fi
     pub not_last : (b : Block) → at_hand n f.payload ≡ Some b → b.height ≡ 2 ^ 64 - 1 → ⊥
     not_last b is last = let low : b.height < length chain.blocks = lawful.in_list f.round b.height (block-final b is).0 in let bound : length chain.blocks < 2 ^ 64 - 1 = lawful.bounded in omega arith
 
-    -- what was told and put before a sync couldn't be started
-    pub tips_told : (b : Block) → at_hand n f.payload ≡ Some b → AreTipsOf chain (tip_reports a.life.tip f b)
-    tips_told b is = tip_reports-chain chain a.life.tip f b (block-final b is).0 (block-final b is).1
-
     -- and nothing is asked for
     pub asks-stored : (b : Block) → at_hand n f.payload ≡ Some b → IsTrue (nat_lt (height_of a.held.processed) b.height) → [] ≡ own_asks config n e no_floor
     asks-stored b is above = sym (asks_by (Some b) [] is (rounds_at b is true above))
@@ -374,17 +380,6 @@ module _ {P E : Type 0} (config : Config) (chain : Chain) (a : Seen P E) (f : Fi
     pair_late-safe partition b is low =
         subst (IsSafePair chain a.held.blocks.sure) (sym (pair_late-is b is low))
         (IsSafePair-after config chain lawful partition n e a.held.blocks.sure good.of_chain.stores.held_certs good.heights.delivery.anchored good.heights.delivery.consecutive good.heights.delivery.out_sure good.of_chain.floor_safe (λ h bound has. has) (subst (MeetsFinal chain) (sym (ap (λ o. option_map (λ c. met_of c f) o) is)) (block-final b is).0) tt tt)
-
-    -- so a sync of it that failed may leave it
-    pub pair_late-left : IsPartition config.epochs → (b : Block) → at_hand n f.payload ≡ Some b → IsFalse (nat_lt (height_of a.held.processed) b.height) → (sure : List (At Block)) → KeepsValues a.held.blocks.sure sure → (p : Pair) → Contains (pair_of a.held.processed (greatest_of a.held.cutoff (at_round f.round ∷ [])) ∷ []) p → MayBeLeft config chain a e buffer waiting sure p
-    pair_late-left partition b is low sure keeps p (suc k, lt, same) = absurd (omega arith)
-    pair_late-left partition b is low sure keeps p (zero, lt, same) = subst (MayBeLeft config chain a e buffer waiting sure) same
-        (inr (
-          sym (pair_late-is b is low),
-          IsSafePair-kept chain 0 a.held.blocks.sure sure _ (λ h bound has. keeps_heights a.held.blocks.sure sure keeps h has)
-              (from_none (option_map height_in a.held.processed)) (pair_late-safe partition b is low),
-          le_refl _,
-        ))
 
     -- a cutoff retain is asked for where the round rises above the cutoff
     pub asks-late : (b : Block) → at_hand n f.payload ≡ Some b → IsFalse (nat_lt (height_of a.held.processed) b.height) → raise_asks a.held.cutoff (at_round f.round ∷ []) ≡ own_asks config n e no_floor
@@ -495,66 +490,6 @@ module _ {P E : Type 0} (config : Config) (chain : Chain) (a : Seen P E) (f : Fi
               from (inl was) = inl was
               from (inr same) = inr (ap (λ c. c || false) (eq-eqb b.height h same))
 
-      -- one write more is counted, which waits
-      pub total-stored : (b : Block) (m : Seen P E) → PutsAbove config.inner after f b m → total_writes a.held.writes < total_writes m.held.writes
-      total-stored b m puts =
-          let more : length (a.held.writes.uncovered ++ b.height ∷ []) ≡ length a.held.writes.uncovered + 1 = length-append a.held.writes.uncovered (b.height ∷ []) in
-          subst (λ w. total_writes a.held.writes < total_writes w) (sym (ap (λ s. s.held.writes) puts.same)) (omega (arith, more))
-
-      pub waits-stored : (b : Block) (m : Seen P E) → PutsAbove config.inner after f b m → Contains m.held.writes.uncovered b.height
-      waits-stored b m puts = subst (λ w. Contains w.uncovered b.height) (sym (ap (λ s. s.held.writes) puts.same)) (Contains-append_right a.held.writes.uncovered (b.height ∷ []) b.height (zero, omega arith, refl))
-
-      -- once its sync is started, the node is good
-      pub IsGood-stored : (b : Block) (m new : Seen P E) → IsNested new.held.blocks → IsNested new.held.certs → AreWritten new.held → at_hand n f.payload ≡ Some b → PutsAbove config.inner after f b m → IsStarted m new → IsGood config chain (node_of new buffer waiting)
-      IsGood-stored b m new blocks_nested certs_nested written is puts started =
-          IsGood-grown config chain a buffer waiting good new (nested_heights new.held.blocks blocks_nested) (nested_heights new.held.certs certs_nested)
-          (ap (λ s. s.life.out) started ∙ ap (λ s. s.life.out) puts.same) processed (subst (λ h. IsCacheOf chain h.kept)
-          (sym (ap (λ s. s.held.cache) started ∙ ap (λ s. s.held.cache) puts.same)) cache_after) own written.blocks written.certs sync_open stays
-          (subst (λ k. AreBlocksOf chain k.held) (sym blocks) (all_held (λ x. IsBlockAt chain x.height x.value) _ _ _ _ puts.blocks.held good.of_chain.stores.held_blocks (block-final b is).1))
-          (subst (λ k. AreBlocksOf chain k.may) (sym blocks) (all_may (λ x. IsBlockAt chain x.height x.value) _ _ _ _ puts.blocks good.of_chain.stores.may_blocks (block-final b is).1))
-          (subst (λ k. AreFinalizationsOf chain k.held) (sym certs) (all_held (λ x. Finalizes chain x.height x.value.round x.value.payload) _ _ _ _ puts.certs.held good.of_chain.stores.held_certs (finalizes b is)))
-          (subst (λ k. AreFinalizationsOf chain k.may) (sym certs) (all_may (λ x. Finalizes chain x.height x.value.round x.value.payload) _ _ _ _ puts.certs good.of_chain.stores.may_certs (finalizes b is)))
-          (subst (λ c. FloorSafe (option_map height_in a.held.processed) c new.held.blocks.sure chain) (sym cutoff) (FloorSafe-still chain (option_map height_in a.held.processed) a.held.cutoff a.held.blocks.sure new.held.blocks.sure (λ has. stays _ (omega arith) has) good.of_chain.floor_safe))
-          (subst (λ k. AllByRecursion (λ x. x.height ≤ new.life.tip) k.held) (sym certs) (subst (λ t. AllByRecursion (λ x. x.height ≤ t) m.held.certs.held) (sym tip) (all_held (λ x. x.height ≤ tip_after a.life.tip b) _ _ _ _ puts.certs.held (AllByRecursion-weaker (λ x. x.height ≤ a.life.tip) (λ x. x.height ≤ tip_after a.life.tip b) (λ x low. let high : a.life.tip ≤ tip_after a.life.tip b = (tip_after-high a.life.tip b).0 in omega arith) a.held.certs.held good.of_chain.tip_reported) (tip_after-high a.life.tip b).1)))
-        where
-          blocks : new.held.blocks ≡ m.held.blocks
-          blocks = ap (λ s. s.held.blocks) started
-
-          certs : new.held.certs ≡ m.held.certs
-          certs = ap (λ s. s.held.certs) started
-
-          processed : new.held.processed ≡ a.held.processed
-          processed = ap (λ s. s.held.processed) started ∙ ap (λ s. s.held.processed) puts.same
-
-          cutoff : new.held.cutoff ≡ a.held.cutoff
-          cutoff = ap (λ s. s.held.cutoff) started ∙ ap (λ s. s.held.cutoff) puts.same
-
-          tip : new.life.tip ≡ tip_after a.life.tip b
-          tip = ap (λ s. s.life.tip) started ∙ ap (λ s. s.life.tip) puts.same
-
-          own : new.held.pairs ≡ pair_of new.held.processed new.held.cutoff ∷ []
-          own = ap (λ s. s.held.pairs) started ∙ (ap (λ s. s.held.pairs) puts.same ∙ (good.heights.own_pair ∙ sym (ap (λ s. pair_of s.held.processed s.held.cutoff ∷ []) started ∙ ap (λ s. pair_of s.held.processed s.held.cutoff ∷ []) puts.same)))
-
-          sync_open : 0 < length new.held.writes.uncovered → Contains (map (λ s. s.position) new.held.writes.syncs) (total_writes new.held.writes)
-          sync_open some = subst (λ w. Contains (map (λ s. s.position) w.syncs) (total_writes w)) (sym (ap (λ s. s.held.writes) started)) (last_position m.held.writes.syncs (record { ticket = m.held.writes.next_sync; position = total_writes m.held.writes }))
-
-          stays : KeepsHeightsFrom 0 a.held.blocks.sure new.held.blocks.sure
-          stays h low has = subst (λ k. IsTrue (has_height k.sure h)) (sym blocks) (subst (λ xs. IsTrue (has_height xs h)) (sym puts.blocks.sure) has)
-
-      -- and rests
-      pub Rest-stored : (b : Block) (m new : Seen P E) → PutsAbove config.inner after f b m → IsStarted m new → Rest config.window n → Rest config.window (node_of new buffer waiting)
-      Rest-stored b m new puts started (floor_awaited some) = absurd cc
-      Rest-stored b m new puts started (window_full full) = window_full (ap (λ s. length s.life.out) started ∙ (ap (λ s. length s.life.out) puts.same ∙ full))
-      Rest-stored b m new puts started (write_uncovered h waits low) = write_uncovered h (subst (λ w. Contains w.uncovered h) (sym (ap (λ s. s.held.writes) started)) (subst (λ w. Contains w.uncovered h) (sym (ap (λ s. s.held.writes) puts.same)) (Contains-append_left a.held.writes.uncovered (b.height ∷ []) h waits))) (subst (λ k. h ≤ k) (sym (ap (λ s. first_unprocessed s.held.processed + length s.life.out) started ∙ ap (λ s. first_unprocessed s.held.processed + length s.life.out) puts.same)) low)
-      Rest-stored b m new puts started (block_missing missing) = by (b.height == first_unprocessed a.held.processed + length a.life.out) refl
-        where
-          next : first_unprocessed new.held.processed + length new.life.out ≡ first_unprocessed a.held.processed + length a.life.out
-          next = ap (λ s. first_unprocessed s.held.processed + length s.life.out) started ∙ ap (λ s. first_unprocessed s.held.processed + length s.life.out) puts.same
-
-          by : (c : Bool) → (b.height == first_unprocessed a.held.processed + length a.life.out) ≡ c → Rest config.window (node_of new buffer waiting)
-          by true same = write_uncovered b.height (subst (λ w. Contains w.uncovered b.height) (sym (ap (λ s. s.held.writes) started)) (waits-stored b m puts)) (let is : b.height ≡ first_unprocessed a.held.processed + length a.life.out = eqb-true b.height (first_unprocessed a.held.processed + length a.life.out) same in omega (arith, next))
-          by false other = block_missing (subst (λ k. value_at new.held.blocks.held k ≡ None) (sym next) (subst (λ k. value_at k.held (first_unprocessed a.held.processed + length a.life.out) ≡ None) (sym (ap (λ s. s.held.blocks) started)) (missing_stays _ _ _ _ (first_unprocessed a.held.processed + length a.life.out) puts.blocks.held other missing)))
-
       -- a block above the processed height is put with its finalization
       pub Reaches-stored : (b : Block) (m : Seen P E) → Grown a.held.blocks (at_own_height b ∷ []) m.held.blocks → Grown a.held.certs (at_height b.height f ∷ []) m.held.certs → at_hand n f.payload ≡ Some b → IsTrue (nat_lt (height_of a.held.processed) b.height) → PutsAbove config.inner after f b m → Reaches config chain a e buffer waiting (tip_reports a.life.tip f b) m
       Reaches-stored b m blocks_grown certs_grown is above puts = record {
@@ -573,8 +508,8 @@ module _ {P E : Type 0} (config : Config) (chain : Chain) (a : Seen P E) (f : Fi
         certs_grown = certs_grown;
         of_blocks = ((block-final b is).1, tt);
         of_certs = (finalizes b is, tt);
-        own_blocks = λ x has. is ∙ ap (λ (y : At Block). Some y.value) (only_one (at_own_height b) x has);
-        own_certs = λ x has. ap (λ (y : At Finalization). Some y.value) (only_one (at_height b.height f) x has);
+        own_blocks = λ x has. brought_from n e x (is ∙ ap (λ (y : At Block). Some y.value) (only_one (at_own_height b) x has));
+        own_certs = λ x has. told_from n e x (ap (λ (y : At Finalization). Some y.value) (only_one (at_height b.height f) x has));
         certificates = Certificates-pushed n (node_of m buffer waiting) e (is_certified config.inner a.held.certs.held b.height (config.inner f.payload)) (at_height b.height f) refl puts.certs.held;
         writes = (Writes-stored b m is above puts).0;
         no_repair = (Writes-stored b m is above puts).1;
@@ -671,7 +606,7 @@ module _ {P E : Type 0} (config : Config) (chain : Chain) (a : Seen P E) (f : Fi
         of_blocks = tt;
         of_certs = (finalizes b is, tt);
         own_blocks = λ x has. nothing_put x has;
-        own_certs = λ x has. ap (λ (y : At Finalization). Some y.value) (only_one (at_height b.height f) x has);
+        own_certs = λ x has. told_from n e x (ap (λ (y : At Finalization). Some y.value) (only_one (at_height b.height f) x has));
         certificates = Certificates-put n (node_of m buffer waiting) e (lacks_finalization a.held b) (is_certified config.inner a.held.certs.held b.height (config.inner f.payload)) (at_height b.height f) refl certs;
         writes = written.0;
         no_repair = written.1;
@@ -756,6 +691,3 @@ module _ {P E : Type 0} (config : Config) (chain : Chain) (a : Seen P E) (f : Fi
             by : (c : Bool) → lacks_finalization a.held b ≡ c → m.life.tip ≡ late_tip c a.life.tip b → IsGood config chain (node_of m buffer waiting)
             by true due at = IsGood-late partition b m grown is low (subst (λ k. a.life.tip ≤ k) (sym at) (tip_after-high a.life.tip b).0) (λ put. subst (λ k. b.height ≤ k) (sym at) (tip_after-high a.life.tip b).1) as_noted as_pruned certs
             by false not_due at = IsGood-late partition b m grown is low (subst (λ k. a.life.tip ≤ k) (sym at) (omega arith)) (λ put. absurd (let both : false ≡ true = sym not_due ∙ put in cc)) as_noted as_pruned certs
-
-        pub writes-noted : m.held.writes ≡ a.held.writes
-        writes-noted = ap (λ x. x.held.writes) stores.same ∙ (ap (λ x. x.held.writes) synced ∙ ap (λ x. x.held.writes) raised.same)

@@ -1,5 +1,5 @@
 -- What a notarization finds is the same before it is kept, where what a crash left of the cache was taken up.
-use Rattle.std.proofs.Common.{◌≡◌, ◌∷◌, [], List, Option, None, Some, Bool, true, false, filter, ℕ, refl, sym, ◌∙◌, ap}
+use Rattle.std.proofs.Common.{◌≡◌, ◌∷◌, [], List, Option, None, Some, Bool, true, false, filter, ℕ, refl, ◌∙◌, ap}
 use Rattle.mar_cert.specs.Block.{Block}
 use Rattle.mar_cert.specs.Finalization.{Notarization}
 use Rattle.mar_model.specs.Cache.{is_notarization_of, verified_at}
@@ -9,7 +9,7 @@ use Rattle.mar_model.specs.Event.{message_told}
 use Rattle.mar_model.specs.Held.{Held}
 use Rattle.mar_model.specs.Messages.{report_notarization}
 use Rattle.mar_model.specs.Moves.{KeepsFor, found_at_hand}
-use Rattle.mar_model.specs.Plans.{Found, found_by, found_of}
+use Rattle.mar_model.specs.Plans.{found_by, found_of}
 use Rattle.mar_model.proofs.CacheOver.{found_unmoved}
 use Rattle.mar_model.proofs.CertifiedBlocks.{verified-unmoved}
 use Rattle.mar_model.proofs.EntryLists.{one_of}

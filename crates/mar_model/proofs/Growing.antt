@@ -1,5 +1,5 @@
 -- What calls one after another leave, since some start: what was sure and held, and no more than was written.
-use Rattle.std.proofs.Common.{◌≡◌, inl, map, ⊎_elim, ℕ, ◌<◌, ◌≤◌, Option, Some, List, [], ◌∷◌, ◌++◌, Bool, true, false, Contains, refl, sym, subst, arith, append-nil}
+use Rattle.std.proofs.Common.{◌≡◌, inl, map, ⊎_elim, ℕ, ◌<◌, ◌≤◌, Option, Some, List, [], ◌∷◌, ◌++◌, Bool, true, false, Contains, refl, sym, subst, arith, append-nil, ◌⊎◌, inr}
 use Rattle.std.proofs.lemmas.List.Elements.{Contains-append_cases, Contains-append_left, Contains-append_right}
 use Rattle.mar_types.specs.Round.{Round}
 use Rattle.mar_key.specs.Cutoff.{Cutoff}
@@ -74,6 +74,21 @@ pub record Grown {T : Type 0} (start : Kept (At T)) (put : List (At T)) (now : K
 
 pub Grown-same : {T : Type 0} (kept now : Kept (At T)) → IsNested kept → now ≡ kept → Grown kept [] now
 Grown-same kept now nested same = subst (Grown kept []) (sym same) (record { leaves = LeavesStore-refl kept 0 [] nested; held = λ x has. has })
+
+pub Grown-then : {T : Type 0} (start : Kept (At T)) (put : List (At T)) (mid : Kept (At T)) (more : List (At T)) (now : Kept (At T)) → Grown start put mid → Grown mid more now → Grown start (put ++ more) now
+Grown-then start put mid more now first second = record {
+  leaves = record {
+    sure = λ h v low is. second.leaves.sure h v low (first.leaves.sure h v low is);
+    held = λ x low has. second.leaves.held x low (first.held x has);
+    may = λ x has. ⊎_elim (λ old. by x (Contains-append_cases start.may put x (first.leaves.may x old))) (λ new. Contains-append_right start.may (put ++ more) x (Contains-append_right put more x new)) (Contains-append_cases mid.may more x (second.leaves.may x has));
+    sure_may = second.leaves.sure_may;
+  };
+  held = λ x has. second.held x (first.held x has);
+}
+  where
+    by : (x : At _) → Contains start.may x ⊎ Contains put x → Contains (start.may ++ (put ++ more)) x
+    by x (inl old) = Contains-append_left start.may (put ++ more) x old
+    by x (inr new) = Contains-append_right start.may (put ++ more) x (Contains-append_left put more x new)
 
 -- what is left of what it has become
 pub LeavesStore-then : {T : Type 0} (start : Kept (At T)) (put : List (At T)) (now : Kept (At T)) (left : Left (At T)) → Grown start put now → LeavesStore now 0 [] left → LeavesStore start 0 put left

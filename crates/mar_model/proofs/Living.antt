@@ -1,5 +1,6 @@
 -- What a plan keeps of a life, and why it ends one: read off the plan.
 use Rattle.std.specs.Prelude.{⊤}
+use Rattle.std.specs.List.{AllByRecursion}
 use Rattle.std.proofs.Common.{Option, None, Some, ◌≡◌, ◌⊎◌, inl, inr, ◌∷◌, [], List, Bool, true, false, cond, nat_lt, length, ℕ, zero, suc, ◌+◌, ◌-◌, ◌^◌, ◌<◌, ◌≤◌, arith, refl, sym, ◌∙◌, ap, subst}
 use Rattle.std.proofs.lemmas.Bool.Decides.{nat_tests}
 use Rattle.mar_model.specs.Faults.{Fault, TicketKind, ack_kind, corrupt, damaged, dropped_ack, floor_epoch_unavailable, floor_invalid, floor_parent_mismatch, genesis_height, genesis_mismatch, height_limit, is_by_value, store_fault, sync_kind, ticket_limit, unbacked, want_of_memory}
@@ -11,10 +12,11 @@ use Rattle.mar_model.specs.Promise.{Heard}
 use Rattle.mar_model.proofs.Cutting.{usual_from_archive}
 use Rattle.mar_model.proofs.Growing.{Grew-refl, WithinWritten-refl}
 use Rattle.mar_model.proofs.Passing.{ArePassed-refl, ArePassed-then, FailsBy-nothing, FailsBy-then}
-use Rattle.mar_model.specs.Acts.{Act, AreLawful, IsKeepFault, Joins, LosesOver, reply, ask, caches, finish_kept, finish_sync, keep_certified, keep_notarization, keep_notarized, keep_verified, keeps_for, load_cache, mark, note, process, progresses, put_finalization, says, send, start_sync, store, store_late, stores, sync_progress, tell}
+use Rattle.mar_model.specs.Acts.{Act, AreLawful, IsKeepFault, Joins, LosesOver, reply, ask, caches, finish_kept, finish_sync, keep_certified, keep_notarization, keep_notarized, keep_verified, keeps_for, load_cache, mark, note, process, progresses, put_finalization, says, send, start_sync, store, store_block, store_late, stores, sync_progress, sync_writes, tell, IsDone, IsLost}
 use Rattle.mar_model.specs.Cached.{Cached}
 use Rattle.mar_gate.specs.Writing.{Writing}
-use Rattle.mar_model.specs.Ran.{Breaks, DoesTask, FailsTask, Reads, Runs, Task, dispatches, does, ends}
+use Rattle.mar_model.specs.Ran.{Breaks, BreaksActs, DoesTask, FailsTask, Reads, Runs, RunsActs, Task, dispatches, does, ends, repairs}
+use Rattle.mar_model.proofs.Acting.{IsPassAct, broke-passes, ran-passes, synced_as}
 use Rattle.mar_model.specs.Scene.{Scene, seen_of}
 
 -- so many windows may be handed over, and so many syncs started
@@ -22,14 +24,17 @@ abbrev pub windows : List Task → ℕ → ℕ
 windows [] w = 0
 windows (dispatches ∷ plan) w = w + windows plan w
 windows (does a ∷ plan) w = windows plan w
+windows (repairs buffer ∷ plan) w = windows plan w
 windows (ends fault ∷ plan) w = windows plan w
 
 abbrev pub syncs : List Task → ℕ
 syncs [] = 0
 syncs (does (stores start_sync) ∷ plan) = 1 + syncs plan
 syncs (does (stores (store f b)) ∷ plan) = syncs plan
+syncs (does (stores (store_block b)) ∷ plan) = syncs plan
 syncs (does (stores (store_late f b)) ∷ plan) = syncs plan
 syncs (does (stores (finish_sync t)) ∷ plan) = syncs plan
+syncs (does (stores sync_writes) ∷ plan) = syncs plan
 syncs (does (caches (put_finalization f)) ∷ plan) = syncs plan
 syncs (does (caches (keep_notarization f)) ∷ plan) = 1 + syncs plan
 syncs (does (caches (keep_notarized r b)) ∷ plan) = 1 + syncs plan
@@ -39,6 +44,7 @@ syncs (does (keeps_for (keep_certified r b t)) ∷ plan) = 1 + syncs plan
 syncs (does (keeps_for (finish_kept t)) ∷ plan) = syncs plan
 syncs (does (progresses a) ∷ plan) = syncs plan
 syncs (does (says a) ∷ plan) = syncs plan
+syncs (repairs buffer ∷ plan) = syncs plan
 syncs (dispatches ∷ plan) = syncs plan
 syncs (ends fault ∷ plan) = syncs plan
 
@@ -141,9 +147,13 @@ module _ (inner : List ℕ → List ℕ) (s t : Scene) where
   Keeps-act (keeps_for (finish_kept k)) (answered, is, joins, law, same) =
       over s t (ap (λ (x : Scene). x.life) same) (λ before. law) (λ before. joined-passed s t _ joins before) 0 (let n : t.held.writes.next_sync ≡ s.held.writes.next_sync = ap (λ h. h.writes.next_sync) is.0.same in omega arith) (ap (λ h. h.intact) is.0.same) (λ was. is.0.loaded ∙ was)
   Keeps-act (stores (store f b)) (is, joins, law, same) = over s t (ap (λ (x : Scene). x.life) same) (λ before. law) (λ before. joined-passed s t _ joins before) 0 (let n : t.held.writes.next_sync ≡ s.held.writes.next_sync = ap (λ h. h.writes.next_sync) is.same in omega arith) (ap (λ h. h.intact) is.same) (λ was. ap (λ h. h.cache.loaded) is.same ∙ was)
+  Keeps-act (stores (store_block b)) (is, joins, law, same) = over s t (ap (λ (x : Scene). x.life) same) (λ before. law) (λ before. joined-passed s t _ joins before) 0 (let n : t.held.writes.next_sync ≡ s.held.writes.next_sync = ap (λ h. h.writes.next_sync) is.same in omega arith) (ap (λ h. h.intact) is.same) (λ was. ap (λ h. h.cache.loaded) is.same ∙ was)
   Keeps-act (stores (store_late f b)) (is, joins, law, same) = over s t (ap (λ (x : Scene). x.life) same) (λ before. law) (λ before. joined-passed s t _ joins before) 0 (let n : t.held.writes.next_sync ≡ s.held.writes.next_sync = ap (λ h. h.writes.next_sync) is.same in omega arith) (ap (λ h. h.intact) is.same) (λ was. ap (λ h. h.cache.loaded) is.same ∙ was)
   Keeps-act (stores start_sync) (is, joins, law, same) = over s t (ap (λ (x : Scene). x.life) same) (λ before. law) (λ before. joined-passed s t _ joins before) 1 (let n : t.held.writes.next_sync ≡ s.held.writes.next_sync + 1 = ap (λ h. h.writes.next_sync) is in omega arith) (ap (λ h. h.intact) is) (λ was. ap (λ h. h.cache.loaded) is ∙ was)
   Keeps-act (stores (finish_sync k)) (is, joins, law, same) = over s t (ap (λ (x : Scene). x.life) same) (λ before. law) (λ before. joined-passed s t _ joins before) 0 (let n : t.held.writes.next_sync ≡ s.held.writes.next_sync = ap (λ h. h.writes.next_sync) is.same in omega arith) (ap (λ h. h.intact) is.same) (λ was. ap (λ h. h.cache.loaded) is.same ∙ was)
+  Keeps-act (stores sync_writes) (is, joins, law, same) =
+      let (kept, given) = synced_as s.held.writes.uncovered s.held t.held is in
+      over s t (ap (λ (x : Scene). x.life) same) (λ before. law) (λ before. joined-passed s t _ joins before) 0 (let n : t.held.writes.next_sync ≡ s.held.writes.next_sync = given in omega arith) (ap (λ h. h.intact) kept) (λ was. ap (λ h. h.cache.loaded) kept ∙ was)
   Keeps-act (progresses (note r)) (is, law, heard, same) = record {
     lawful = λ before. law;
     passed = λ before. is.passed;
@@ -180,8 +190,31 @@ module _ (inner : List ℕ → List ℕ) (s t : Scene) where
   Keeps-act (says (ask calls)) (heard, same) = beside s t (ap (λ (x : Scene). x.held) same) (ap (λ (x : Scene). x.life.next_ack) same) (ap (λ (x : Scene). x.life.sizes) same) (let n : t.life.tip ≡ s.life.tip = ap (λ (x : Scene). x.life.tip) same in omega arith)
   Keeps-act (says (send x)) (heard, same) = beside s t (ap (λ (y : Scene). y.held) same) (ap (λ (y : Scene). y.life.next_ack) same) (ap (λ (y : Scene). y.life.sizes) same) (let n : t.life.tip ≡ s.life.tip = ap (λ (y : Scene). y.life.tip) same in omega arith)
 
+  -- an act of a pass of repair
+  keeps_one : (a : Act) → IsPassAct a → IsDone inner a s t → Keeps 0 0 s t
+  keeps_one (stores (store f b)) is did = Keeps-act (stores (store f b)) did
+  keeps_one (stores (store_block b)) is did = Keeps-act (stores (store_block b)) did
+  keeps_one (says (tell r h d)) is did = Keeps-act (says (tell r h d)) did
+  keeps_one (says (ask calls)) is did = Keeps-act (says (ask calls)) did
+  keeps_one (stores (store_late f b)) is did = absurd is
+  keeps_one (stores start_sync) is did = absurd is
+  keeps_one (stores sync_writes) is did = absurd is
+  keeps_one (stores (finish_sync k)) is did = absurd is
+  keeps_one (says (send x)) is did = absurd is
+  keeps_one (says (reply a)) is did = absurd is
+  keeps_one (caches a) is did = absurd is
+  keeps_one (keeps_for a) is did = absurd is
+  keeps_one (progresses a) is did = absurd is
+
+-- such acts in a row
+keeps_row : (inner : List ℕ → List ℕ) (acts : List Act) (s t : Scene) → AllByRecursion IsPassAct acts → RunsActs inner s acts t → Keeps 0 0 s t
+keeps_row inner [] s t are reads = Keeps-read s t reads
+keeps_row inner (a ∷ acts) s t are (mid, after, reads, did, runs) = Keeps-then 0 0 0 0 s after t (Keeps-then 0 0 0 0 s mid after (Keeps-read s mid reads) (keeps_one inner mid after a are.0 did)) (keeps_row inner acts after t are.1 runs)
+
+module _ (inner : List ℕ → List ℕ) (s t : Scene) where
   Keeps-task : (k : Task) (w : ℕ) → s.life.sizes.window ≡ w → DoesTask inner k s t → Keeps (windows (k ∷ []) w) (syncs (k ∷ [])) s t
-  Keeps-task (does a) w is did = Keeps-act a did
+  Keeps-task (does a) w is did = Keeps-act inner s t a did
+  Keeps-task (repairs buffer) w is did = let (acts, are, ran) = ran-passes inner buffer s t did in keeps_row inner acts s t are ran
   Keeps-task dispatches w is did = record {
     lawful = λ law. subst (λ (h : Held). AreLawful h) (sym (ap (λ x. x.held) did.ran.same)) (record { blocks = law.blocks; certs = law.certs; written = record { blocks = law.written.blocks; certs = law.written.certs; ordered = law.written.ordered }; cached = record { nested = law.cached.nested; own_lowest = law.cached.own_lowest; own_tickets = law.cached.own_tickets } });
     passed = λ law. did.ran.grew.passed;
@@ -198,14 +231,17 @@ module _ (inner : List ℕ → List ℕ) (s t : Scene) where
 
 windows-one : (k : Task) (plan : List Task) (w : ℕ) → windows (k ∷ plan) w ≡ windows (k ∷ []) w + windows plan w
 windows-one (does a) plan w = omega arith
+windows-one (repairs buffer) plan w = omega arith
 windows-one dispatches plan w = omega arith
 windows-one (ends fault) plan w = omega arith
 
 syncs-one : (k : Task) (plan : List Task) → syncs (k ∷ plan) ≡ syncs (k ∷ []) + syncs plan
 syncs-one (does (stores start_sync)) plan = omega arith
 syncs-one (does (stores (store f b))) plan = omega arith
+syncs-one (does (stores (store_block b))) plan = omega arith
 syncs-one (does (stores (store_late f b))) plan = omega arith
 syncs-one (does (stores (finish_sync t))) plan = omega arith
+syncs-one (does (stores sync_writes)) plan = omega arith
 syncs-one (does (caches (put_finalization f))) plan = omega arith
 syncs-one (does (caches (keep_notarization f))) plan = omega arith
 syncs-one (does (caches (keep_notarized r b))) plan = omega arith
@@ -215,6 +251,7 @@ syncs-one (does (keeps_for (keep_certified r b t))) plan = omega arith
 syncs-one (does (keeps_for (finish_kept t))) plan = omega arith
 syncs-one (does (progresses a)) plan = omega arith
 syncs-one (does (says a)) plan = omega arith
+syncs-one (repairs buffer) plan = omega arith
 syncs-one dispatches plan = omega arith
 syncs-one (ends fault) plan = omega arith
 
@@ -262,6 +299,7 @@ Ends-then a b a' b' s t e law keeps ends_it = record {
 abbrev pub EndByValue : List Task → Type 0
 EndByValue [] = ⊤
 EndByValue (does a ∷ plan) = EndByValue plan
+EndByValue (repairs buffer ∷ plan) = EndByValue plan
 EndByValue (dispatches ∷ plan) = EndByValue plan
 EndByValue (ends fault ∷ plan) = (is_by_value fault ≡ true) × EndByValue plan
 
@@ -295,7 +333,7 @@ module _ (s : Scene) (e : Ending) (heard : Heard) (law : AreLawful s.held) where
   unkept-ends epoch written loses (inl usual) = Ends-usual _ _ s e (lost-cause s written e law loses) usual
   unkept-ends epoch written loses (inr (limit, last, high)) = record { cause = lost-cause s written e law loses; acks_out = λ is. absurd (let no : ticket_limit sync_kind ≡ ticket_limit ack_kind = sym limit ∙ is in cc); syncs_out = λ is. omega (arith, last) }
 
-  Ends-act : (a : Act) → FailsTask (does a) s e heard → Ends 0 (syncs (does a ∷ [])) s e
+  Ends-act : (a : Act) → IsLost a s e heard → Ends 0 (syncs (does a ∷ [])) s e
   Ends-act (caches (put_finalization f)) (loses, usual, same) = Ends-usual _ _ s e (lost-cause s _ e law loses) usual
   Ends-act (caches (keep_notarization f)) (loses, kind, same) = unkept-ends _ _ loses kind
   Ends-act (caches (keep_notarized r b)) (loses, kind, same) = unkept-ends _ _ loses kind
@@ -308,6 +346,8 @@ module _ (s : Scene) (e : Ending) (heard : Heard) (law : AreLawful s.held) where
   Ends-act (progresses sync_progress) (loses, usual, same) = Ends-usual _ _ s e (lost-cause s _ e law loses) usual
   Ends-act (says (reply a)) (is, same) = memory-ends is
   Ends-act (stores (store f b)) (loses, archive, same) = Ends-usual _ _ s e (lost-cause s _ e law loses) (usual_from_archive e.fault archive)
+  Ends-act (stores (store_block b)) (loses, archive, same) = Ends-usual _ _ s e (lost-cause s _ e law loses) (usual_from_archive e.fault archive)
+  Ends-act (stores sync_writes) (loses, archive, same) = Ends-usual _ _ s e (lost-cause s _ e law loses) (usual_from_archive e.fault archive)
   Ends-act (stores (store_late f b)) (loses, archive, same) = Ends-usual _ _ s e (lost-cause s _ e law loses) (usual_from_archive e.fault archive)
   Ends-act (stores (finish_sync t)) (loses, archive, same) = Ends-usual _ _ s e (lost-cause s _ e law loses) (usual_from_archive e.fault archive)
   Ends-act (stores start_sync) (loses, inl archive, same) = Ends-usual _ _ s e (lost-cause s _ e law loses) (usual_from_archive e.fault archive)
@@ -317,8 +357,36 @@ module _ (s : Scene) (e : Ending) (heard : Heard) (law : AreLawful s.held) where
   Ends-act (says (ask calls)) (is, heard, same) = memory-ends is
   Ends-act (says (send x)) (is, heard, same) = memory-ends is
 
-  Ends-task : (k : Task) (w : ℕ) → s.life.sizes.window ≡ w → EndByValue (k ∷ []) → FailsTask k s e heard → Ends (windows (k ∷ []) w) (syncs (k ∷ [])) s e
-  Ends-task (does a) w is by fails = Ends-act a fails
+  ends_one : (a : Act) → IsPassAct a → IsLost a s e heard → Ends 0 0 s e
+  ends_one (stores (store f b)) is lost = Ends-act (stores (store f b)) lost
+  ends_one (stores (store_block b)) is lost = Ends-act (stores (store_block b)) lost
+  ends_one (says (tell r h d)) is lost = Ends-act (says (tell r h d)) lost
+  ends_one (says (ask calls)) is lost = Ends-act (says (ask calls)) lost
+  ends_one (stores (store_late f b)) is lost = absurd is
+  ends_one (stores start_sync) is lost = absurd is
+  ends_one (stores sync_writes) is lost = absurd is
+  ends_one (stores (finish_sync k)) is lost = absurd is
+  ends_one (says (send x)) is lost = absurd is
+  ends_one (says (reply a)) is lost = absurd is
+  ends_one (caches a) is lost = absurd is
+  ends_one (keeps_for a) is lost = absurd is
+  ends_one (progresses a) is lost = absurd is
+
+-- a row of them broke
+ends_row : (inner : List ℕ → List ℕ) (acts : List Act) (s : Scene) (e : Ending) (heard : Heard) → AreLawful s.held → AllByRecursion IsPassAct acts → BreaksActs inner s acts e heard → Ends 0 0 s e
+ends_row inner [] s e heard law are fails = Ends-usual 0 0 s e (lost-cause s _ e law fails.loses) fails.usual
+ends_row inner (a ∷ acts) s e heard law are (inl fails) = Ends-usual 0 0 s e (lost-cause s _ e law fails.loses) fails.usual
+ends_row inner (a ∷ acts) s e heard law are (inr (mid, reads, inl lost)) =
+    let read = Keeps-read s mid reads in
+    Ends-then 0 0 0 0 s mid e law read (ends_one mid e heard (read.lawful law) a are.0 lost)
+ends_row inner (a ∷ acts) s e heard law are (inr (mid, reads, inr (after, did, breaks))) =
+    let both = Keeps-then 0 0 0 0 s mid after (Keeps-read s mid reads) (keeps_one inner mid after a are.0 did) in
+    Ends-then 0 0 0 0 s after e law both (ends_row inner acts after e heard (both.lawful law) are.1 breaks)
+
+module _ (inner : List ℕ → List ℕ) (s : Scene) (e : Ending) (heard : Heard) (law : AreLawful s.held) where
+  Ends-task : (k : Task) (w : ℕ) → s.life.sizes.window ≡ w → EndByValue (k ∷ []) → FailsTask inner k s e heard → Ends (windows (k ∷ []) w) (syncs (k ∷ [])) s e
+  Ends-task (does a) w is by fails = Ends-act s e heard law a fails
+  Ends-task (repairs buffer) w is by fails = let (acts, are, broke) = broke-passes inner buffer s e heard fails in ends_row inner acts s e heard law are broke
   Ends-task dispatches w is by fails = stopped fails.stops.kind
     where
       room : length fails.handed ≤ s.life.sizes.window
@@ -331,6 +399,7 @@ module _ (s : Scene) (e : Ending) (heard : Heard) (law : AreLawful s.held) where
 
 EndByValue-first : (k : Task) (plan : List Task) → EndByValue (k ∷ plan) → EndByValue (k ∷ []) × EndByValue plan
 EndByValue-first (does a) plan by = (tt, by)
+EndByValue-first (repairs buffer) plan by = (tt, by)
 EndByValue-first dispatches plan by = (tt, by)
 EndByValue-first (ends fault) plan by = ((by.0, tt), by.1)
 
@@ -342,7 +411,7 @@ Breaks-ends inner w (k ∷ plan) s e heard is law by (inr (mid, reads, inl fails
     let read = Keeps-read s mid reads in
     let one : windows (k ∷ plan) w ≡ windows (k ∷ []) w + windows plan w = windows-one k plan w in
     let two : syncs (k ∷ plan) ≡ syncs (k ∷ []) + syncs plan = syncs-one k plan in
-    Ends-more _ _ _ _ s e (omega arith) (omega arith) (Ends-then _ _ _ _ s mid e law read (Ends-task mid e heard (read.lawful law) k w (ap (λ z. z.window) read.sizes ∙ is) (EndByValue-first k plan by).0 fails))
+    Ends-more _ _ _ _ s e (omega arith) (omega arith) (Ends-then _ _ _ _ s mid e law read (Ends-task inner mid e heard (read.lawful law) k w (ap (λ z. z.window) read.sizes ∙ is) (EndByValue-first k plan by).0 fails))
 Breaks-ends inner w (k ∷ plan) s e heard is law by (inr (mid, reads, inr (after, did, breaks))) =
     let read = Keeps-read s mid reads in
     let did_it = Keeps-task inner mid after k w (ap (λ z. z.window) read.sizes ∙ is) did in

@@ -31,7 +31,7 @@ passes_found p (y ∷ ys) x is = by (p y) refl (soonest p ys) (passes_found p ys
     by true py (Some z) rest e = first (is_sooner z y) z py (rest z refl) e
     by false py o rest e = rest x e
 
-some_found : (p : Cached → Bool) (xs : List Cached) → is_some (soonest p xs) ≡ list_any p xs
+pub some_found : (p : Cached → Bool) (xs : List Cached) → is_some (soonest p xs) ≡ list_any p xs
 some_found p [] = refl
 some_found p (y ∷ ys) = by (p y) (some_found p ys)
   where

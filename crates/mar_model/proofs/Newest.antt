@@ -113,11 +113,11 @@ newest_upto-highest {T = T} (x ∷ xs) h = by (nat_le x.height h) refl (newest_u
     by false is None none = (λ low. (let a : h < x.height = leb-false x.height h is in omega arith), none)
     by false is (Some y) others = (λ low. absurd (let a : h < x.height = leb-false x.height h is in omega arith), others)
 
-contains_height : {T : Type 0} (xs : List (At T)) (x : At T) → Contains xs x → Contains (heights xs) x.height
+pub contains_height : {T : Type 0} (xs : List (At T)) (x : At T) → Contains xs x → Contains (heights xs) x.height
 contains_height xs x has = (has.0, rw length-map has.1, get_or-map (λ y. y.height) xs has.0 x ∙ ap (λ y. y.height) has.2)
 
 -- some entry stands at a height of the list
-entry_of : {T : Type 0} (xs : List (At T)) (k : ℕ) → Contains (heights xs) k → (x : At T) × Contains xs x × (x.height ≡ k)
+pub entry_of : {T : Type 0} (xs : List (At T)) (k : ℕ) → Contains (heights xs) k → (x : At T) × Contains xs x × (x.height ≡ k)
 entry_of [] k (i, lt, is) = absurd (omega arith)
 entry_of (x ∷ xs) k (zero, lt, is) = (x, (zero, omega arith, refl), is)
 entry_of (x ∷ xs) k (suc i, lt, is) = let found = entry_of xs k (i, omega arith, is) in (found.0, (suc found.1.0, (let low = found.1.1 in omega arith), found.1.2), found.2)

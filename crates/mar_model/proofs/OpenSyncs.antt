@@ -1,5 +1,5 @@
 -- Open syncs of the cache: what calls leave of them, and that each has a ticket of its own.
-use Rattle.std.proofs.Common.{◌≡◌, ◌==◌, ◌<◌, ℕ, List, [], ◌∷◌, Bool, true, false, cond, not, Option, Some, None, find, filter, refl, ap, ◌∙◌, ◌||◌, map}
+use Rattle.std.proofs.Common.{◌≡◌, ◌==◌, ℕ, List, [], ◌∷◌, Bool, true, false, cond, not, Option, Some, None, find, filter, refl, ap, ◌∙◌, ◌||◌, map}
 use Rattle.std.specs.List.{list_any}
 use Rattle.mar_model.specs.CacheCalls.{KeepsTickets}
 use Rattle.mar_model.specs.Cached.{Cached}

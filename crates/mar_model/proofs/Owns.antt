@@ -19,7 +19,7 @@ use Rattle.mar_model.specs.Moves.{pruned_by}
 use Rattle.mar_model.specs.Node.{Node}
 use Rattle.mar_model.specs.Promise.{Waiting, node_of}
 use Rattle.mar_model.specs.Acts.{KeepAct, finish_kept, keep_certified, keep_verified, reply, ask, caches, keeps_for, mark, note, process, progresses, says, send, stores, sync_progress, tell, written_cached, written_kept, written_stored}
-use Rattle.mar_model.specs.Ran.{Task, dispatches, does, ends}
+use Rattle.mar_model.specs.Ran.{Task, dispatches, does, ends, repairs}
 use Rattle.mar_model.specs.Scene.{Scene, seen_of}
 
 -- what is determined between two tasks
@@ -97,5 +97,6 @@ Owns config chain n e all retention own c (does (progresses (process h)) ∷ pla
 Owns config chain n e all retention own c (does (progresses sync_progress) ∷ plan) = ⊥
 Owns config chain n e all retention own c (does (says (reply a)) ∷ plan) = Owns config chain n e all retention own c plan
 Owns config chain n e all retention own c (does (says (send x)) ∷ plan) = Owns config chain n e all retention own c plan
+Owns config chain n e all retention own c (repairs buffer ∷ plan) = ⊥
 Owns config chain n e all retention own c (dispatches ∷ plan) = (plan ≡ []) × (c.pair ≡ pair_after config n e) × (c.processed ≡ processed_after n e no_floor) × (n.out ≡ kept_blocks n e no_floor)
 Owns config chain n e all retention own c (ends fault ∷ plan) = (c.pair ≡ own) × (event_fault config n e ≡ Some fault) × (is_dropped_ack fault ≡ false) × Owns config chain n e all retention own c plan

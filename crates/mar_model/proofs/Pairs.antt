@@ -1,5 +1,5 @@
 -- The pairs that stored values stand for.
-use Rattle.std.proofs.Common.{Bool, List, Some, false, true, [], arith, length, map, refl, ap, ℕ, ◌++◌, ◌<◌, ◌∙◌, ◌∷◌, ◌≡◌}
+use Rattle.std.proofs.Common.{Bool, List, Some, false, true, [], arith, length, map, refl, ap, ◌++◌, ◌<◌, ◌∷◌, ◌≡◌}
 use Rattle.std.proofs.lemmas.List.{length-map, map-append}
 use Rattle.mar_store.specs.Values.{LeavesValues, Values, synced_values}
 use Rattle.mar_store.specs.Luck.{lucky_values}

@@ -9,14 +9,14 @@ use Rattle.mar_model.specs.Event.{Event, message_told}
 use Rattle.mar_model.specs.Messages.{report_finalization}
 use Rattle.mar_model.specs.Node.{CertifiedCommitment}
 use Rattle.mar_model.specs.Faults.{Fault, height_limit, last_height}
-use Rattle.mar_model.specs.Held.{Ending, Held, Remembered, ended_on, nothing_written}
+use Rattle.mar_model.specs.Held.{Held, Remembered, ended_on, nothing_written}
 use Rattle.mar_model.specs.Moves.{CachesFinalization, found_at_hand, is_verified_in}
 use Rattle.mar_model.specs.Promise.{Heard}
 use Rattle.mar_model.specs.Requests.{want_asks}
 use Rattle.mar_model.proofs.CacheOver.{found_cached}
 use Rattle.mar_model.specs.Acts.{Joins, ask, caches, put_finalization, says, start_sync, store, stores, tell}
 use Rattle.mar_model.specs.Plans.{DoesEvent, RunsPlan, at_hand_plan, final_plan, found_by, found_of, kept_plan, let_go_plan, note_plan, plan_of, store_plan, sync_plan}
-use Rattle.mar_model.specs.Ran.{Does, Reached, Task, dispatches, does, ends}
+use Rattle.mar_model.specs.Ran.{Does, Reached, Task, dispatches, does, ends, repairs}
 use Rattle.mar_model.specs.Scene.{Scene, Standing, Window, scene, window_of}
 use Rattle.mar_model.proofs.Running.{Reached-first, Reached-last, Reached-read}
 
@@ -28,27 +28,30 @@ Does-behind inner fault plan read held one life standing heard new result is sam
 pub replanned : (inner : List ℕ → List ℕ) (start : Scene) (whole rest : List Task) (s : Scene) (plan plan' : List Task) → plan ≡ plan' → Reached inner start whole (plan ++ rest) s → Reached inner start whole (plan' ++ rest) s
 replanned inner start whole rest s plan plan' is reached = subst (λ p. Reached inner start whole (p ++ rest) s) is reached
 
-pub store_plan-below : (f : Finalization) (b : Block) → b.height < last_height → store_plan f b ≡ does (stores (store f b)) ∷ does (says (tell f.round b.height b.digest)) ∷ does (stores start_sync) ∷ []
-store_plan-below f b below = rw is refl
+pub store_plan-below : (buffer : List Block) (f : Finalization) (b : Block) → b.height < last_height
+    → store_plan buffer f b ≡ does (stores (store f b)) ∷ does (says (tell f.round b.height b.digest)) ∷ repairs buffer ∷ does (stores start_sync) ∷ []
+store_plan-below buffer f b below = rw is refl
   where
     is : (b.height == last_height) ≡ false
     is = grind (arith, nat_tests)
 
-pub store_plan-last : (f : Finalization) (b : Block) (height : ℕ) → height ≡ b.height → height ≡ last_height → store_plan f b ≡ ends (height_limit height) ∷ []
-store_plan-last f b height own last = rw is (ap (λ h. ends (height_limit h) ∷ []) (sym own))
+pub store_plan-last : (buffer : List Block) (f : Finalization) (b : Block) (height : ℕ) → height ≡ b.height → height ≡ last_height → store_plan buffer f b ≡ ends (height_limit height) ∷ []
+store_plan-last buffer f b height own last = rw is (ap (λ h. ends (height_limit h) ∷ []) (sym own))
   where
     is : (b.height == last_height) ≡ true
     is = grind (arith, nat_tests)
 
-module _ (held one : Held) (same : one ≡ record held { watches = one.watches }) (f : Finalization) (found : Option Block) where
-  pub plan-absent : None ≡ found → at_hand_plan held f found ≡ does (says (ask (want_asks one.cutoff f.round f.payload))) ∷ []
-  plan-absent none = ap (at_hand_plan held f) (sym none) ∙ ap (λ h. does (says (ask (want_asks h.cutoff f.round f.payload))) ∷ []) (sym same)
+module _ (buffer : List Block) (held one : Held) (same : one ≡ record held { watches = one.watches }) (f : Finalization) (found : Option Block) where
+  pub plan-absent : None ≡ found → at_hand_plan buffer held f found ≡ does (says (ask (want_asks one.cutoff f.round f.payload))) ∷ []
+  plan-absent none = ap (at_hand_plan buffer held f) (sym none) ∙ ap (λ h. does (says (ask (want_asks h.cutoff f.round f.payload))) ∷ []) (sym same)
 
-  pub plan-above : (b : Block) → Some b ≡ found → nat_lt (height_of one.processed) b.height ≡ true → at_hand_plan held f found ≡ store_plan f b
-  plan-above b is above = ap (at_hand_plan held f) (sym is) ∙ ap (λ c. cond c (store_plan f b) (note_plan held f b)) (ap (λ h. nat_lt (height_of h.processed) b.height) (sym same) ∙ above)
+  pub plan-above : (b : Block) → Some b ≡ found → nat_lt (height_of one.processed) b.height ≡ true → at_hand_plan buffer held f found ≡ store_plan buffer f b
+  plan-above b is above = ap (at_hand_plan buffer held f) (sym is)
+      ∙ ap (λ c. cond c (store_plan buffer f b) (note_plan held f b)) (ap (λ h. nat_lt (height_of h.processed) b.height) (sym same) ∙ above)
 
-  pub plan-low : (b : Block) → Some b ≡ found → nat_lt (height_of one.processed) b.height ≡ false → at_hand_plan held f found ≡ note_plan one f b
-  plan-low b is low = ap (at_hand_plan held f) (sym is) ∙ ap (λ c. cond c (store_plan f b) (note_plan held f b)) (ap (λ h. nat_lt (height_of h.processed) b.height) (sym same) ∙ low) ∙ ap (λ h. note_plan h f b) (sym same)
+  pub plan-low : (b : Block) → Some b ≡ found → nat_lt (height_of one.processed) b.height ≡ false → at_hand_plan buffer held f found ≡ note_plan one f b
+  plan-low b is low = ap (at_hand_plan buffer held f) (sym is)
+      ∙ ap (λ c. cond c (store_plan buffer f b) (note_plan held f b)) (ap (λ h. nat_lt (height_of h.processed) b.height) (sym same) ∙ low) ∙ ap (λ h. note_plan h f b) (sym same)
 
 -- a notarized block that isn't at hand is not kept
 pub kept-absent : (r : Round) (h : Held) (o : Option Block) → None ≡ o → kept_plan r (found_of h r o) ≡ []
@@ -72,10 +75,10 @@ module _ (inner : List ℕ → List ℕ) (buffer : List Block) (f : Finalization
   found_before loaded = ap (λ o. found_of before f.round o) (ap (λ h. found_at_hand inner buffer held.cache.kept.held h.blocks.held f.payload) caching.same ∙ found_cached inner f before held buffer before.blocks.held f.payload loaded caching)
 
   -- and so the plan goes on by what is held now
-  pub plan-cached : final_plan before f (found_of before f.round at_hand_now).block ≡ does (caches (put_finalization f)) ∷ at_hand_plan held f at_hand_now
-  plan-cached = ap (λ p. does (caches (put_finalization f)) ∷ p) (ap (at_hand_plan before f) (found_block before f.round at_hand_now) ∙ (by at_hand_now ∙ sym (ap (λ h. at_hand_plan h f at_hand_now) caching.same)))
+  pub plan-cached : final_plan buffer before f (found_of before f.round at_hand_now).block ≡ does (caches (put_finalization f)) ∷ at_hand_plan buffer held f at_hand_now
+  plan-cached = ap (λ p. does (caches (put_finalization f)) ∷ p) (ap (at_hand_plan buffer before f) (found_block before f.round at_hand_now) ∙ (by at_hand_now ∙ sym (ap (λ h. at_hand_plan buffer h f at_hand_now) caching.same)))
     where
-      by : (o : Option Block) → at_hand_plan before f o ≡ at_hand_plan (record before { cache = held.cache; watches = held.watches }) f o
+      by : (o : Option Block) → at_hand_plan buffer before f o ≡ at_hand_plan buffer (record before { cache = held.cache; watches = held.watches }) f o
       by None = refl
       by (Some b) = refl
 

@@ -1,5 +1,5 @@
 -- What a late finalization, and an acknowledgement, make of the step's promise.
-use Rattle.std.proofs.Common.{◌≡◌, ◌⊎◌, inl, inr, ℕ, ◌+◌, ◌≤◌, List, [], ◌∷◌, length, Bool, true, false, if◌then◌else◌, nat_lt, Option, Some, None, Result, Ok, Err, IfErr, IfOk, MatchResult, OnErr, OnOk, Contains, refl, sym, ◌∙◌, ap, subst, arith, append-nil}
+use Rattle.std.proofs.Common.{◌≡◌, ◌⊎◌, inl, inr, ℕ, ◌+◌, ◌≤◌, List, [], ◌∷◌, length, Bool, true, false, if◌then◌else◌, nat_lt, Option, Some, None, Result, Ok, Err, Contains, refl, sym, ◌∙◌, ap, subst, arith}
 use Rattle.mar_types.specs.Epochs.{Epochs, IsPartition}
 use Rattle.mar_cert.specs.Block.{Block}
 use Rattle.mar_cert.specs.Finalization.{Finalization}
@@ -8,29 +8,26 @@ use Rattle.mar_key.specs.Cutoff.{at_round, greatest_of}
 use Rattle.mar_key.specs.Hears.{Hears}
 use Rattle.mar_key.specs.Keys.{Call}
 use Rattle.mar_key.specs.Processed.{first_unprocessed, height_of}
-use Rattle.mar_store.specs.Kept.{At, value_at}
-use Rattle.mar_store.specs.Changes.{IsNested, KeepsValues, left_of}
+use Rattle.mar_store.specs.Kept.{value_at}
+use Rattle.mar_store.specs.Changes.{IsNested, KeepsValues}
 use Rattle.mar_types.specs.Round.{Round}
-use Rattle.mar_model.specs.Cache.{witnessing_of}
-use Rattle.mar_model.specs.Cached.{Cached, finalization_entry}
 use Rattle.mar_model.specs.Acks.{Mark, Outstanding, after_given, dropped_oldest, given_front, is_dropped, mark_dropped, mark_given, mark_waiting, with_mark}
-use Rattle.mar_model.specs.Metadata.{Pair, first_pair, pair_of}
+use Rattle.mar_model.specs.Metadata.{Pair, pair_of}
 use Rattle.mar_model.specs.Chain.{Chain}
-use Rattle.mar_model.specs.Answers.{sends_of}
 use Rattle.mar_model.specs.Config.{Config}
-use Rattle.mar_model.specs.Event.{Event, ack_marked, cutoff_after, effect_of, message_told, no_floor, processed_after, told_finalization}
-use Rattle.mar_model.specs.Faults.{Fault, dropped_ack, dropped_first, is_by_value}
-use Rattle.mar_model.specs.Held.{AreCached, Ending, Grew, Held, IsArchiveFault, IsUsual, LeavesCache, LeavesStore, Loses, Seen, Written, blocks_left, cache_left, certs_left, written_cert, written_pair, written_prunes}
-use Rattle.mar_model.specs.Lives.{is_dropped_ack, is_refused_floor, later_round, reached_before}
-use Rattle.mar_model.specs.Moves.{CachesFinalization, Drains, EndsDropped, HearsFront, PrunesCacheBy, RaisesTo, StoresLate, at_height, found_at_hand, lacks_finalization, late_tips, pruned_by, rounds_of}
-use Rattle.mar_model.specs.Node.{AreFinalizationsOf, Rest, at_hand, block_missing, floor_awaited, window_full, write_uncovered}
-use Rattle.mar_model.specs.Promise.{CutsStep, IsGoodUntold, IsLawfulStep, IsSetTo, KeepsStep, Waiting, heard_by, made_of, node_of}
+use Rattle.mar_model.specs.Event.{Event, ack_marked, message_told, no_floor}
+use Rattle.mar_model.specs.Faults.{dropped_ack, dropped_first}
+use Rattle.mar_model.specs.Held.{AreCached, Ending, Grew, Held, IsUsual, Loses, Seen, written_cert, written_pair, written_prunes}
+use Rattle.mar_model.specs.Lives.{is_refused_floor, later_round}
+use Rattle.mar_model.specs.Moves.{CachesFinalization, Drains, EndsDropped, HearsFront, RaisesTo, StoresLate, at_height, found_at_hand, lacks_finalization, late_tips, pruned_by, rounds_of}
+use Rattle.mar_model.specs.Node.{Rest, at_hand, block_missing, floor_awaited, window_full, write_uncovered}
+use Rattle.mar_model.specs.Promise.{IsLawfulStep, IsSetTo, KeepsStep, Waiting, heard_by, made_of, node_of}
 use Rattle.mar_gate.specs.Writing.{total_writes}
 use Rattle.mar_model.specs.Requests.{own_asks, raise_asks, retire_asks}
 use Rattle.mar_model.specs.Step.{IsFront, Report}
 use Rattle.mar_model.proofs.AckEvent as ack
-use Rattle.mar_model.proofs.CacheOver.{LeavesCache-still, OwnCache, cached_as, leaves_reported, own_pruned, own_reported}
-use Rattle.mar_model.proofs.Cutting.{Cuts-before, Cuts-left, LeavesStores, MayBeLeft, keeps_sure, never, only_one, some_from_first, usual_from_archive, usual_not_by_value, usual_not_dropped}
+use Rattle.mar_model.proofs.CacheOver.{OwnCache, cached_as, own_pruned}
+use Rattle.mar_model.proofs.Cutting.{Cuts-before, never}
 use Rattle.mar_model.proofs.EventPromises as event
 use Rattle.mar_model.proofs.FinalizationEvent as final
 use Rattle.mar_model.proofs.FinalizationEvent.{IsSyncedAfter}
@@ -38,7 +35,6 @@ use Rattle.mar_model.proofs.Growing.{Grown, Grown-certs}
 use Rattle.mar_model.proofs.Handing.{Hears-nothing, HearsFront-whole, Ran}
 use Rattle.mar_model.proofs.PlainEvents.{nothing_put}
 use Rattle.mar_model.proofs.Promises.{dispatched, undispatched}
-use Rattle.mar_model.proofs.Soundness.{untold}
 
 -- it rests as long as what is outstanding, processed and held is the same
 pub Rest-same : {P E : Type 0} (window : ℕ) (a m : Seen P E) (buffer : List Block) (waiting : Waiting) → m.life.out ≡ a.life.out → m.held.processed ≡ a.held.processed → m.held.blocks ≡ a.held.blocks → m.held.writes ≡ a.held.writes → Rest window (node_of a buffer waiting) → Rest window (node_of m buffer waiting)
@@ -66,44 +62,6 @@ dropped_first-some (x ∷ out) o is = by x.mark refl is
         of_mark mark_given p = absurd cc
 
 module _ {P E : Type 0} (epochs : Epochs) (inner : List ℕ → List ℕ) (partition : IsPartition epochs) (a : Seen P E) (buffer : List Block) where
-  -- a call of an archive failed once the metadata held the event's pair, and nothing had been told
-  synced_cut : (config : Config) (chain : Chain) (waiting : Waiting) (e : Event) (step : IsLawfulStep config chain (node_of a buffer waiting) (e ∷ [])) (no_effect : effect_of config (node_of a buffer waiting) e ≡ no_floor) → ((fault : Fault) → is_refused_floor e fault ≡ false) → (told told' : Option (List Report)) (heard heard' : Option (List Call)) (now : Held) (own : Pair) (put : List Cached) (prunes : List Round) (y : At Finalization) (x : Ending) → Hears told [] told' → Hears heard (own_asks config (node_of a buffer waiting) e no_floor) heard' → now.blocks ≡ a.held.blocks → now.certs ≡ a.held.certs → LeavesCache (left_of a.held.cache.kept) a.held.lowests put prunes (left_of now.cache.kept) now.lowests → OwnCache config chain (node_of a buffer waiting) e put prunes → now.pairs ≡ own ∷ [] → own ≡ pair_of (processed_after (node_of a buffer waiting) e no_floor) (cutoff_after config (node_of a buffer waiting) e no_floor) → AreFinalizationsOf chain (y ∷ []) → told_finalization (node_of a buffer waiting) e ≡ Some y.value → Loses now (written_cert y) x → ((sure : List (At Block)) → KeepsValues a.held.blocks.sure sure → (p : Pair) → Contains (own ∷ []) p → MayBeLeft config chain a e buffer waiting sure p) → IsArchiveFault x.fault → CutsStep config chain (node_of a buffer waiting) (e ∷ []) (heard_by told heard) (heard_by told' heard') x
-  synced_cut config chain waiting e step no_effect unrefused told told' heard heard' now own put prunes y x silent asks same_blocks same_certs cache_leaves own_cache pairs own_is of_cert told_is lost may of_archive = record {
-    made = made_of [] (own_asks config (node_of a buffer waiting) e no_floor);
-    heard = record { reports = silent; asks = asks; sends = refl; answers = refl };
-    cuts = Cuts-left config chain a e buffer waiting before.0 before.1 no_effect [] (sends_of (node_of a buffer waiting) e, refl) [] (own_asks config (node_of a buffer waiting) e no_floor) a.life.tip (reached_before (node_of a buffer waiting) e) x.fault x.remains.ended refl tt (inl refl) tt tt leaves
-        (some_from_first x.remains.ended.meta own (lost.leaves.pairs.first ∙ ap first_pair pairs))
-        (inr ((λ is. absurd (subst IsArchiveFault is of_archive)), lost.leaves.pairs.first ∙ (ap first_pair pairs ∙ ap Some own_is)))
-        (λ p has. may x.remains.ended.blocks_sure (keeps_sure a.held.blocks [] (blocks_left x.remains.ended) blocks_leave) p (subst (λ ps. Contains ps p) (append-nil now.pairs ∙ pairs) (lost.leaves.pairs.within p has)))
-        (λ is. absurd (never (is_by_value x.fault) (usual_not_by_value x.fault usual) is)) (never (is_refused_floor e x.fault) (unrefused x.fault)) (λ is. absurd (never (is_dropped_ack x.fault) (usual_not_dropped x.fault usual) is))
-        ([], sym (append-nil (own_asks config (node_of a buffer waiting) e no_floor)));
-  }
-    where
-      usual : IsUsual x.fault
-      usual = usual_from_archive x.fault of_archive
-
-      before : IsGoodUntold config chain (node_of a buffer waiting)
-      before = untold config chain (node_of a buffer waiting) e step.good
-
-      blocks_leave : LeavesStore a.held.blocks 0 [] (blocks_left x.remains.ended)
-      blocks_leave = subst (λ k. LeavesStore k 0 [] (blocks_left x.remains.ended)) same_blocks lost.leaves.blocks
-
-      leaves : LeavesStores config chain (node_of a buffer waiting) e x.remains.ended
-      leaves = record {
-        put_blocks = [];
-        put_certs = y ∷ [];
-        blocks = blocks_leave;
-        certs = subst (λ k. LeavesStore k 0 (y ∷ []) (certs_left x.remains.ended)) same_certs lost.leaves.certs;
-        of_blocks = tt;
-        of_certs = of_cert;
-        own_blocks = λ z has. nothing_put z has;
-        own_certs = λ z has. told_is ∙ ap (λ (u : At Finalization). Some u.value) (only_one y z has);
-        put_cached = put;
-        prunes = prunes;
-        own_cache = own_cache;
-        cache = LeavesCache-still (left_of a.held.cache.kept) a.held.lowests put prunes (left_of now.cache.kept) now.lowests (cache_left x.remains.ended) x.remains.ended.lowests cache_leaves lost.leaves.cache;
-      }
-
   -- LATE FINALIZATIONS
 
   module _ (f : Finalization) (now : Held) (cached : AreCached a.held) (caches : CachesFinalization f a.held now) (b : Block) (found : found_at_hand inner buffer now.cache.kept.held now.blocks.held f.payload ≡ Some b) (low_now : nat_lt (height_of now.processed) b.height ≡ false) where
@@ -123,64 +81,16 @@ module _ {P E : Type 0} (epochs : Epochs) (inner : List ℕ → List ℕ) (parti
     low : nat_lt (height_of a.held.processed) b.height ≡ false
     low = subst (λ h. nat_lt (height_of h.processed) b.height ≡ false) caches.same low_now
 
-    -- the rounds that the witnessed one prunes by
-    abbrev pub pruned : List Round
-    pruned = pruned_by a.life.sizes.retention a.held.witnessed (f.round ∷ [])
-
     module _ (loaded : a.held.cache.loaded ≡ true) (config : Config) (chain : Chain) (waiting : Waiting) (set : IsSetTo config a.life.sizes epochs inner) (step : IsLawfulStep config chain (node_of a buffer waiting) (e ∷ [])) where
       hand : at_hand (node_of a buffer waiting) f.payload ≡ Some b
       hand = event.hand epochs inner partition a buffer f now cached caches loaded config chain waiting set step (Some b) found
 
-      may : (sure : List (At Block)) → KeepsValues a.held.blocks.sure sure → (p : Pair) → Contains (noted ∷ []) p → MayBeLeft config chain a e buffer waiting sure p
-      may sure keeps p has = final.pair_late-left config chain a f buffer waiting step.lawful step.one step.good step.reported.0 (event.partition_of epochs inner partition a buffer config set.epochs_are) b hand low sure keeps p has
-
       asks_late : raise_asks now.cutoff (at_round f.round ∷ []) ≡ own_asks config (node_of a buffer waiting) e no_floor
       asks_late = ap (λ h. raise_asks h.cutoff (at_round f.round ∷ [])) caches.same ∙ final.asks-late config chain a f buffer waiting step.lawful step.one step.good step.reported.0 b hand low
-
-      -- the event witnesses the reported round
-      prunes_are : pruned ≡ (witnessing_of config (node_of a buffer waiting) e no_floor).prunes
-      prunes_are = ap (λ k. pruned_by k a.held.witnessed (f.round ∷ [])) (sym set.retention) ∙ sym (ap (λ w. w.prunes) (final.witnessed_by config chain a f buffer waiting step.lawful step.one step.good step.reported.0 (f.round ∷ []) (final.rounds_at config chain a f buffer waiting step.lawful step.one step.good step.reported.0 b hand false low)))
-
-      own_cache : OwnCache config chain (node_of a buffer waiting) e (finalization_entry f ∷ []) pruned
-      own_cache = own_reported config chain (node_of a buffer waiting) f pruned step.reported.0 (λ r has. subst (λ rs. Contains rs r) prunes_are has)
-
-    -- what noting the round may have written beside the finalization, by what held then
-    abbrev noted_by : Held → Written
-    noted_by h = record (written_pair (pair_of h.processed (greatest_of h.cutoff (at_round f.round ∷ [])))) { cached = finalization_entry f ∷ []; prunes = pruned_by a.life.sizes.retention h.witnessed (f.round ∷ []) }
-
-    -- noting the round ended the life
-    pub promise-unnoted : (told : Option (List Report)) (heard heard' : Option (List Call)) (x : Ending) → HearsFront heard (raise_asks now.cutoff (at_round f.round ∷ [])) heard' → Loses a.held (noted_by now) x → IsUsual x.fault → KeepsStep epochs inner a (e ∷ []) buffer (heard_by told heard) (heard_by told heard') (Err x)
-    promise-unnoted told heard heard' x front lost_now usual loaded config chain waiting set step =
-        let lost : Loses a.held (noted_by a.held) x = subst (λ h. Loses a.held (noted_by h) x) caches.same lost_now in
-        event.quiet_cut epochs inner partition a buffer config chain waiting e step refl (λ fault. refl) told told heard heard' (noted_by a.held) x (Hears-nothing told)
-        (subst (λ cs. HearsFront heard cs heard') (asks_late loaded config chain waiting set step) front) refl refl (own_cache loaded config chain waiting set step) tt tt (λ z has. nothing_put z has) (λ z has. nothing_put z has) lost
-        (λ q has. may loaded config chain waiting set step x.remains.ended.blocks_sure (λ h v at. lost.leaves.blocks.sure h v (omega arith) at) q has) usual
 
     module _ (w s : Seen P E) (raised : RaisesTo after (at_round f.round ∷ []) (f.round ∷ []) w) (synced : IsSyncedAfter w s) where
       raised_as : RaisesTo (cached_as a now) (at_round f.round ∷ []) (f.round ∷ []) w
       raised_as = subst (λ k. RaisesTo k (at_round f.round ∷ []) (f.round ∷ []) w) after_is raised
-
-      pairs_are : s.held.pairs ≡ noted ∷ []
-      pairs_are = ap (λ k. k.held.pairs) synced ∙ ap (λ k. pair_of k.held.processed k.held.cutoff ∷ []) raised_as.same
-
-      -- what it left of the cache
-      cache_leaves : a.held.cache.loaded ≡ true → LeavesCache (left_of a.held.cache.kept) a.held.lowests (finalization_entry f ∷ []) pruned (left_of s.held.cache.kept) s.held.lowests
-      cache_leaves loaded = subst (λ h. LeavesCache (left_of a.held.cache.kept) a.held.lowests (finalization_entry f ∷ []) pruned (left_of h.cache.kept) h.lowests) (sym (ap (λ k. k.held) synced))
-          (leaves_reported f a.held now w.held pruned cached loaded caches (subst (λ h. PrunesCacheBy pruned h w.held) (sym caches.same) raised_as.prunes))
-
-      pub promise-unstored_late : (told told' : Option (List Report)) (heard heard' : Option (List Call)) (x : Ending) → Hears told [] told' → Hears heard (raise_asks now.cutoff (at_round f.round ∷ [])) heard' → Loses s.held (written_cert (at_height b.height f)) x → IsArchiveFault x.fault → KeepsStep epochs inner a (e ∷ []) buffer (heard_by told heard) (heard_by told' heard') (Err x)
-      promise-unstored_late told told' heard heard' x silent asks lost of_archive loaded config chain waiting set step =
-          synced_cut config chain waiting e step refl (λ fault. refl) told told' heard heard' s.held noted (finalization_entry f ∷ []) pruned (at_height b.height f) x silent
-          (subst (λ cs. Hears heard cs heard') (asks_late loaded config chain waiting set step) asks)
-          blocks_same certs_same (cache_leaves loaded) (own_cache loaded config chain waiting set step) pairs_are
-          (final.pair_late-is config chain a f buffer waiting step.lawful step.one step.good step.reported.0 b (hand loaded config chain waiting set step) low)
-          (event.of_cert epochs inner partition a buffer f now cached caches b found loaded config chain waiting set step) refl lost (may loaded config chain waiting set step) of_archive
-        where
-          blocks_same : s.held.blocks ≡ a.held.blocks
-          blocks_same = ap (λ k. k.held.blocks) synced ∙ ap (λ k. k.held.blocks) raised_as.same
-
-          certs_same : s.held.certs ≡ a.held.certs
-          certs_same = ap (λ k. k.held.certs) synced ∙ ap (λ k. k.held.certs) raised_as.same
 
       due_same : lacks_finalization s.held b ≡ lacks_finalization a.held b
       due_same = ap (λ k. lacks_finalization k.held b) synced ∙ ap (λ k. lacks_finalization k.held b) raised_as.same
@@ -193,7 +103,7 @@ module _ {P E : Type 0} (epochs : Epochs) (inner : List ℕ → List ℕ) (parti
 
       pub promise-late : (told told' : Option (List Report)) (heard heard' : Option (List Call)) (m : Seen P E) → IsNested a.held.blocks → IsNested a.held.certs → StoresLate inner s f b m → Grew s.held (written_cert (at_height b.height f)) m.held → Hears told (late_tips (lacks_finalization s.held b) s.life.tip f b) told' → Hears heard (raise_asks now.cutoff (at_round f.round ∷ [])) heard' → KeepsStep epochs inner a (e ∷ []) buffer (heard_by told heard) (heard_by told' heard') (Ok m)
       promise-late told told' heard heard' m nested certs_nested stores grew tips asks loaded config chain waiting set step =
-          undispatched config chain a m e buffer waiting (late_tips (lacks_finalization a.held b) a.life.tip f b) (set.window ∙ sym (ap (λ k. k.life.sizes.window) late)) step (λ fault. refl)
+          undispatched config chain a m e buffer waiting (late_tips (lacks_finalization a.held b) a.life.tip f b) (set.window ∙ sym (ap (λ k. k.life.sizes.window) late)) step (λ fault. refl) (λ n'. final.pass-at config chain a f buffer waiting step.lawful step.one step.good step.reported.0 b (hand loaded config chain waiting set step) false low n') refl
           (final.Reaches-late config chain a f buffer waiting step.lawful step.one step.good step.reported.0 now cached loaded caches set.retention b w s m raised_as synced stores_as (event.partition_of epochs inner partition a buffer config set.epochs_are) nested certs_nested grown (hand loaded config chain waiting set step) low)
           (final.IsGood-noted config chain a f buffer waiting step.lawful step.one step.good step.reported.0 now cached loaded caches set.retention b w s m raised_as synced stores_as (event.partition_of epochs inner partition a buffer config set.epochs_are) grown (hand loaded config chain waiting set step) low)
           (let same : total_writes m.held.writes ≡ total_writes a.held.writes = ap (λ k. total_writes k.held.writes) late in omega arith)
@@ -211,11 +121,6 @@ module _ {P E : Type 0} (epochs : Epochs) (inner : List ℕ → List ℕ) (parti
 
           grown : Grown a.held.certs (at_height b.height f ∷ []) m.held.certs
           grown = subst (λ k. Grown k (at_height b.height f ∷ []) m.held.certs) certs_same (Grown-certs s.held m.held (written_cert (at_height b.height f)) refl grew)
-
-      -- however the late put ends
-      pub promise-noted : (told told' : Option (List Report)) (heard heard' : Option (List Call)) (result : Result (Seen P E) Ending) → IsNested a.held.blocks → IsNested a.held.certs → OnOk result (Hears told (late_tips (lacks_finalization s.held b) s.life.tip f b) told') → OnErr result (Hears told [] told') → IfOk result (λ m. StoresLate inner s f b m) → MatchResult result (λ m. Grew s.held (written_cert (at_height b.height f)) m.held) (Loses s.held (written_cert (at_height b.height f))) → IfErr result (λ x. IsArchiveFault x.fault) → Hears heard (raise_asks now.cutoff (at_round f.round ∷ [])) heard' → KeepsStep epochs inner a (e ∷ []) buffer (heard_by told heard) (heard_by told' heard') result
-      promise-noted told told' heard heard' (Ok m) nested certs_nested tips silent stores grew of_archive asks = promise-late told told' heard heard' m nested certs_nested stores grew tips asks
-      promise-noted told told' heard heard' (Err x) nested certs_nested tips silent stores lost of_archive asks = promise-unstored_late told told' heard heard' x silent asks lost of_archive
 
   -- ACKNOWLEDGEMENTS
 
@@ -247,7 +152,7 @@ module _ {P E : Type 0} (epochs : Epochs) (inner : List ℕ → List ℕ) (parti
       heard = record { reports = Hears-nothing told; asks = asks_heard; sends = refl; answers = refl };
       cuts = Cuts-before config chain a (ack_marked t as_mark) buffer waiting a.life.tip step.good refl [] ([], refl) [] asks a.life.tip (written_prunes acked_prunes) x tt refl tt refl refl (own_acked loaded config chain waiting set step nested certs_nested) tt tt (λ z has. nothing_put z has) (λ z has. nothing_put z has) lost (λ p has. nothing_put p has)
           (λ is. dropped_first-some (after_given marked.life.out) ends.oldest ends.dropped ∙ ap Some (sym ends.fault)) (never (is_refused_floor (ack_marked t as_mark) x.fault) refl) (λ is. ends.unsynced)
-          (subst (λ cs. IsFront asks cs) (asks_are loaded config chain waiting set step nested certs_nested) front);
+          (inl (subst (λ cs. IsFront asks cs) (asks_are loaded config chain waiting set step nested certs_nested) front));
     }
 
     module _ (is_drained : Bool) (d : Seen P E) (drains : Drains epochs marked is_drained d) where
@@ -269,7 +174,7 @@ module _ {P E : Type 0} (epochs : Epochs) (inner : List ℕ → List ℕ) (parti
 
       pub promise-acked : (told told' : Option (List Report)) (heard heard' : Option (List Call)) (m : Seen P E) (result : Result (Seen P E) Ending) → IsNested a.held.blocks → IsNested a.held.certs → m ≡ record d { held = record d.held { pairs = pair_of d.held.processed d.held.cutoff ∷ []; watches = m.held.watches } } → Hears heard (retire_asks epochs a.held.certs.held a.held.cutoff (given_front marked.life.out)) heard' → Ran m told told' result → KeepsStep epochs inner a (ack_marked t as_mark ∷ []) buffer (heard_by told heard) (heard_by told' heard') result
       promise-acked told told' heard heard' m result nested certs_nested synced asks ran loaded config chain waiting set step =
-          dispatched config chain a m (ack_marked t as_mark) buffer waiting [] (set.window ∙ sym (ap (λ k. k.life.sizes.window) synced ∙ window_same)) step (λ fault. refl)
+          dispatched config chain a m (ack_marked t as_mark) buffer waiting [] (set.window ∙ sym (ap (λ k. k.life.sizes.window) synced ∙ window_same)) step (λ fault. refl) (λ n'. refl) refl
           (ack.Reaches-ack config chain step.lawful (event.partition_of epochs inner partition a buffer config set.epochs_are) a t as_mark buffer waiting nested certs_nested step.good loaded cached is_drained d (of_config config set.epochs_are) set.retention m synced)
           (ack.IsGood-ack config chain step.lawful (event.partition_of epochs inner partition a buffer config set.epochs_are) a t as_mark buffer waiting nested certs_nested step.good loaded cached is_drained d (of_config config set.epochs_are) m synced)
           (let same : total_writes m.held.writes ≡ total_writes a.held.writes = ap total_writes (ack.writes-ack config chain step.lawful (event.partition_of epochs inner partition a buffer config set.epochs_are) a t as_mark buffer waiting nested certs_nested step.good loaded cached is_drained d (of_config config set.epochs_are) m synced) in omega arith)
@@ -282,7 +187,7 @@ module _ {P E : Type 0} (epochs : Epochs) (inner : List ℕ → List ℕ) (parti
 
     pub promise-not_drained : (told : Option (List Report)) (heard heard' : Option (List Call)) (d : Seen P E) (is_drained : Bool) → is_drained ≡ false → Drains epochs marked is_drained d → IsNested a.held.blocks → IsNested a.held.certs → Hears heard (retire_asks epochs a.held.certs.held a.held.cutoff (given_front marked.life.out)) heard' → KeepsStep epochs inner a (ack_marked t as_mark ∷ []) buffer (heard_by told heard) (heard_by told heard') (Ok d)
     promise-not_drained told heard heard' d is_drained not_drained any nested certs_nested asks loaded config chain waiting set step =
-        undispatched config chain a d (ack_marked t as_mark) buffer waiting [] (set.window ∙ sym (ap (λ k. k.life.sizes.window) any.same)) step (λ fault. refl)
+        undispatched config chain a d (ack_marked t as_mark) buffer waiting [] (set.window ∙ sym (ap (λ k. k.life.sizes.window) any.same)) step (λ fault. refl) (λ n'. refl) refl
         (ack.Reaches-undrained config chain step.lawful (event.partition_of epochs inner partition a buffer config set.epochs_are) a t as_mark buffer waiting nested certs_nested step.good loaded cached d drains)
         (ack.IsGood-undrained config chain step.lawful (event.partition_of epochs inner partition a buffer config set.epochs_are) a t as_mark buffer waiting nested certs_nested step.good loaded cached d drains)
         (let same : total_writes d.held.writes ≡ total_writes a.held.writes = ap total_writes (ack.writes-undrained config chain step.lawful (event.partition_of epochs inner partition a buffer config set.epochs_are) a t as_mark buffer waiting nested certs_nested step.good loaded cached d drains) in omega arith)

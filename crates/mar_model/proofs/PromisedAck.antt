@@ -270,7 +270,7 @@ module _ {P E : Type 0} (life : Remembered P E) (epochs : Epochs) (inner : List 
     settle_broke false x heard fails = unsettled x heard fails
     settle_broke true x heard breaks = by (breaks_first inner (does (progresses sync_progress)) (dispatches ∷ []) d x heard drained.lawful breaks)
       where
-        by : FailsRead d x heard ⊎ (((mid : Scene) × Reads d mid × FailsTask (does (progresses sync_progress)) mid x heard) ⊎
+        by : FailsRead d x heard ⊎ (((mid : Scene) × Reads d mid × FailsTask inner (does (progresses sync_progress)) mid x heard) ⊎
             ((m : Scene) × DoesTask inner (does (progresses sync_progress)) d m × Breaks inner m (dispatches ∷ []) x heard)) → Kept heard (Err x)
         by (inl fails) = unsettled x heard fails
         by (inr (inl (mid, reads, (over, usual, same)))) =
@@ -298,18 +298,18 @@ module _ {P E : Type 0} (life : Remembered P E) (epochs : Epochs) (inner : List 
           (ap dropped_oldest is ∙ ap (λ m. cond (is_dropped m) (Some o) None) marked) (ap after_oldest is ∙ (ap (λ m. cond (is_given m) out (o ∷ out)) marked ∙ sym is))) breaks
       by again mark_given marked breaks = from (breaks_first inner (does (progresses (process o.height))) (drain_plan out ++ rest) now x heard far.lawful breaks)
         where
-          from : FailsRead now x heard ⊎ (((mid : Scene) × Reads now mid × FailsTask (does (progresses (process o.height))) mid x heard) ⊎
+          from : FailsRead now x heard ⊎ (((mid : Scene) × Reads now mid × FailsTask inner (does (progresses (process o.height))) mid x heard) ⊎
               ((new : Scene) × DoesTask inner (does (progresses (process o.height))) now new × Breaks inner new (drain_plan out ++ rest) x heard)) → Kept heard (Err x)
           from (inl fails) = unread now far x heard fails
           from (inr (inl (mid, reads, fails))) =
-              let (over, usual, some, same) = subst (λ (y : Scene). FailsTask (does (progresses (process o.height))) y x heard) reads.same fails in
+              let (over, usual, some, same) = subst (λ (y : Scene). FailsTask inner (does (progresses (process o.height))) y x heard) reads.same fails in
               undrained now far x heard (over s.held all (subst (λ (y : Scene). Grew s.held all y.held) reads.same (reads.joins s.held all (grew_now now far) (WithinWritten-nothing all)))
               (within_one now far o out is marked)) (inl usual)
               (subst (λ zs. HearsFront now.heard.asks zs heard.asks) (asks_one now far o out is marked) some) same
           from (inr (inr (new, did, left))) = again new (out_then now far o out is marked new did) (more now far o out is marked new did) left
       by again mark_dropped marked breaks = from (breaks_first inner (ends (dropped_ack o.height)) rest now x heard far.lawful breaks)
         where
-          from : FailsRead now x heard ⊎ (((mid : Scene) × Reads now mid × FailsTask (ends (dropped_ack o.height)) mid x heard) ⊎ ((new : Scene) × ⊥ × Breaks inner new rest x heard))
+          from : FailsRead now x heard ⊎ (((mid : Scene) × Reads now mid × FailsTask inner (ends (dropped_ack o.height)) mid x heard) ⊎ ((new : Scene) × ⊥ × Breaks inner new rest x heard))
               → Kept heard (Err x)
           from (inl fails) = unread now far x heard fails
           from (inr (inl (mid, reads, (is_ended, same)))) =

@@ -22,20 +22,24 @@ use Rattle.mar_model.specs.Metadata.{pair_of}
 use Rattle.mar_model.specs.Stored.{at_own_height}
 use Rattle.mar_model.specs.Acts.{AreLawful, Joins, ask, caches, finish_kept, finish_sync, keeps_for, note, progresses, put_finalization, says, start_sync, store, store_late, stores, tell, Notes, StoresBoth, StoresMissing}
 use Rattle.mar_model.specs.Plans.{at_hand_plan, final_plan, finish_plan, late_plan, note_plan, store_plan, sync_plan}
-use Rattle.mar_model.specs.Ran.{Breaks, Reads, Runs, Task, dispatches, does, ends}
+use Rattle.mar_model.specs.Ran.{Breaks, Reads, Runs, Task, dispatches, does, ends, repairs}
 use Rattle.mar_model.specs.Requests.{raise_asks, want_asks}
 use Rattle.mar_model.specs.Scene.{Scene}
 use Rattle.mar_model.specs.Step.{Report}
 use Rattle.mar_model.proofs.CacheOver.{found_cached}
 use Rattle.mar_model.proofs.SyncTickets.{position-closed, without-closed}
 use Rattle.mar_model.proofs.EventCuts.{final_cut, sync_cut}
-use Rattle.mar_model.proofs.EventPromises.{promise-absent, promise-closed, promise-finished, promise-stored}
+use Rattle.mar_model.proofs.EventPromises.{promise-absent, promise-closed, promise-finished}
 use Rattle.mar_model.proofs.Growing.{Grew-refl, WithinWritten-nothing, WithinWritten-refl, WithinWritten-entry}
 use Rattle.mar_model.proofs.Handing.{Hears-nothing, Ran as Dispatched}
 use Rattle.mar_model.proofs.ProgressPromises.{promise-late}
 use Rattle.mar_model.proofs.SyncPromise.{at, done_as, read_behind}
 use Rattle.mar_model.proofs.Unread.{runs_first}
 use Rattle.mar_model.proofs.Stopping.{dispatch_ran, step_beside}
+use Rattle.mar_model.proofs.StoredPass.{promise-passed}
+use Rattle.mar_model.proofs.Living.{Runs-keeps}
+use Rattle.mar_model.proofs.Acting.{pass_quiet}
+use Rattle.mar_model.proofs.Running.{Reads-refl}
 
 -- none of the syncs has a ticket that isn't the cache's
 pub none_of : (t : ℕ) (syncs : List CacheSync) → is_cache_sync syncs t ≡ false → NoneHas t syncs
@@ -161,27 +165,30 @@ module _ {P E : Type 0} (life : Remembered P E) (epochs : Epochs) (inner : List 
             grew_then : Grew s.held all h
             grew_then = joins_then s.held all (joins s.held all (Grew-refl s.held all law.blocks law.certs) (WithinWritten-entry (finalization_entry f) all (zero, omega arith, refl))) both
 
-            started : (u : Scene) (reports : Option (List Report)) → Hears s.heard.reports (tip_reports s.life.tip f b) reports → Runs inner (told h reports) (does (stores start_sync) ∷ []) u
-                → Kept u.heard (Ok (at life u))
-            started u reports tips runs =
-                let (m, (starts, starts_then, lawful_started, same), reads) = runs_first inner (does (stores start_sync)) [] (told h reports) u lawful_then runs in
-                done_as life epochs inner (e ∷ []) buffer s m u (told m.held reports) same reads
-                (beside (record s.heard { reports = reports }) (Ok (at life (told m.held reports))) refl
-                (λ loaded. promise-stored epochs inner partition (at life s) buffer f now law.cached caches_it b (found_then loaded (Some b) some) (at life (told h reports))
-                (at life (told m.held reports))
-                s.heard.reports reports s.heard.asks lawful_started.blocks lawful_started.certs lawful_started.written (subst (λ p. nat_lt (height_of p) b.height ≡ true) (sym processed_is) above)
-                (record { blocks = puts.blocks; certs = puts.certs; same = ap (λ k. at life (told k reports)) puts.same }) (ap (λ k. at life (told k reports)) starts) grew_then tips loaded))
+            -- and the tip is told, gaps are filled and a sync is started
+            filled : (v : Scene) (reports : Option (List Report)) → Hears s.heard.reports (tip_reports s.life.tip f b) reports → Runs inner (told h reports) (repairs buffer ∷ does (stores start_sync) ∷ []) v
+                → Kept v.heard (Ok (at life v))
+            filled v reports tips runs =
+                let (t, pass, rest) = runs_first inner (repairs buffer) (does (stores start_sync) ∷ []) (told h reports) v lawful_then runs in
+                let kept = Runs-keeps inner (told h reports).life.sizes.window (repairs buffer ∷ []) (told h reports) t refl (told h reports, t, Reads-refl (told h reports), pass, Reads-refl t) in
+                let (m, (starts, starts_then, lawful_started, same), reads) = runs_first inner (does (stores start_sync)) [] t v (kept.lawful lawful_then) rest in
+                done_as life epochs inner (e ∷ []) buffer s m v (record t { held = m.held }) same reads
+                (beside t.heard (Ok (at life (record t { held = m.held })))
+                (pass_quiet inner buffer (told h reports) t pass)
+                (λ loaded. promise-passed life epochs inner partition buffer s law f now caches_it b (found_then loaded (Some b) some) (subst (λ p. nat_lt (height_of p) b.height ≡ true) (sym processed_is) above)
+                (told h reports) t (record t { held = m.held })
+                (record { blocks = puts.blocks; certs = puts.certs; same = ap (λ k. at life (told k reports)) puts.same }) grew_then lawful_then pass (ap (λ k. at life (record t { held = k })) starts) lawful_started tips refl loaded))
 
-            told_ran : (u : Scene) → Runs inner (record s { held = h }) (does (says (tell f.round b.height b.digest)) ∷ does (stores start_sync) ∷ []) u → Kept u.heard (Ok (at life u))
+            told_ran : (u : Scene) → Runs inner (record s { held = h }) (does (says (tell f.round b.height b.digest)) ∷ repairs buffer ∷ does (stores start_sync) ∷ []) u → Kept u.heard (Ok (at life u))
             told_ran u runs =
-                let (m, (tips, same), rest) = runs_first inner (does (says (tell f.round b.height b.digest))) (does (stores start_sync) ∷ []) (record s { held = h }) u lawful_then runs in
-                started u m.heard.reports tips (subst (λ y. Runs inner y (does (stores start_sync) ∷ []) u) same rest)
+                let (m, (tips, same), rest) = runs_first inner (does (says (tell f.round b.height b.digest))) (repairs buffer ∷ does (stores start_sync) ∷ []) (record s { held = h }) u lawful_then runs in
+                filled u m.heard.reports tips (subst (λ y. Runs inner y (repairs buffer ∷ does (stores start_sync) ∷ []) u) same rest)
 
-          stored : (u : Scene) → Runs inner put (does (stores (store f b)) ∷ does (says (tell f.round b.height b.digest)) ∷ does (stores start_sync) ∷ []) u → Kept u.heard (Ok (at life u))
+          stored : (u : Scene) → Runs inner put (does (stores (store f b)) ∷ does (says (tell f.round b.height b.digest)) ∷ repairs buffer ∷ does (stores start_sync) ∷ []) u → Kept u.heard (Ok (at life u))
           stored u runs =
               let (m, (puts, joins_then, lawful_then, same), rest) = runs_first inner (does (stores (store f b)))
-              (does (says (tell f.round b.height b.digest)) ∷ does (stores start_sync) ∷ []) put u lawful runs in
-              told_ran m.held puts joins_then lawful_then u (subst (λ y. Runs inner y (does (says (tell f.round b.height b.digest)) ∷ does (stores start_sync) ∷ []) u) same rest)
+              (does (says (tell f.round b.height b.digest)) ∷ repairs buffer ∷ does (stores start_sync) ∷ []) put u lawful runs in
+              told_ran m.held puts joins_then lawful_then u (subst (λ y. Runs inner y (does (says (tell f.round b.height b.digest)) ∷ repairs buffer ∷ does (stores start_sync) ∷ []) u) same rest)
 
         -- at or below it, where its round was noted
         module _ (low : nat_lt (height_of s.held.processed) b.height ≡ false) (h : Held) (heard : Option (List Call)) (notes : Notes f.round s.life.sizes.retention now h) (lawful_noted : AreLawful h)
@@ -243,27 +250,27 @@ module _ {P E : Type 0} (life : Remembered P E) (epochs : Epochs) (inner : List 
             late_plan_ran low m.held m.heard.asks notes lawful_noted asks u (subst (λ y. Runs inner y (late_plan (lacks_finalization s.held b) f b) u) same rest)
 
         stored_ran : nat_lt (height_of s.held.processed) b.height ≡ true → (u : Scene) (c : Bool)
-            → Runs inner put (cond c (ends (height_limit b.height) ∷ []) (does (stores (store f b)) ∷ does (says (tell f.round b.height b.digest)) ∷ does (stores start_sync) ∷ [])) u
+            → Runs inner put (cond c (ends (height_limit b.height) ∷ []) (does (stores (store f b)) ∷ does (says (tell f.round b.height b.digest)) ∷ repairs buffer ∷ does (stores start_sync) ∷ [])) u
             → Kept u.heard (Ok (at life u))
         stored_ran above u true (mid, after, reads, did, left) = absurd did
         stored_ran above u false runs = stored above u runs
 
-        at_hand_ran : (u : Scene) (c : Bool) → nat_lt (height_of s.held.processed) b.height ≡ c → Runs inner put (cond c (store_plan f b) (note_plan s.held f b)) u → Kept u.heard (Ok (at life u))
+        at_hand_ran : (u : Scene) (c : Bool) → nat_lt (height_of s.held.processed) b.height ≡ c → Runs inner put (cond c (store_plan buffer f b) (note_plan s.held f b)) u → Kept u.heard (Ok (at life u))
         at_hand_ran u true above runs = stored_ran above u (b.height == last_height) runs
         at_hand_ran u false low runs = noted_ran low u runs
 
-      put_ran : (u : Scene) (o : Option Block) → found ≡ o → Runs inner put (at_hand_plan s.held f o) u → Kept u.heard (Ok (at life u))
+      put_ran : (u : Scene) (o : Option Block) → found ≡ o → Runs inner put (at_hand_plan buffer s.held f o) u → Kept u.heard (Ok (at life u))
       put_ran u None is runs = absent u is runs
       put_ran u (Some b) is runs = at_hand_ran b is u (nat_lt (height_of s.held.processed) b.height) refl runs
 
-    pub final_done : (u : Scene) → Runs inner s (final_plan s.held f found) u
+    pub final_done : (u : Scene) → Runs inner s (final_plan buffer s.held f found) u
         → KeepsStep epochs inner (at life s) (message_told None (report_finalization f) ∷ []) buffer s.heard u.heard (Ok (at life u))
     final_done u runs =
-        let (m, did, rest) = runs_first inner (does (caches (put_finalization f))) (at_hand_plan s.held f found) s u law runs in
+        let (m, did, rest) = runs_first inner (does (caches (put_finalization f))) (at_hand_plan buffer s.held f found) s u law runs in
         put_ran m.held did.0 did.1 did.2 u found refl
-        (subst (λ y. Runs inner y (at_hand_plan s.held f found) u) did.3 rest)
+        (subst (λ y. Runs inner y (at_hand_plan buffer s.held f found) u) did.3 rest)
 
-    pub final_undone : (x : Ending) (heard : Heard) → Breaks inner s (final_plan s.held f found) x heard
+    pub final_undone : (x : Ending) (heard : Heard) → Breaks inner s (final_plan buffer s.held f found) x heard
         → KeepsStep epochs inner (at life s) (message_told None (report_finalization f) ∷ []) buffer s.heard heard (Err x)
-    final_undone x heard breaks = λ loaded. final_cut life epochs inner partition buffer s law x heard f (subst (λ o. Breaks inner s (final_plan s.held f o) x heard) (finds loaded) breaks)
+    final_undone x heard breaks = λ loaded. final_cut life epochs inner partition buffer s law x heard f (subst (λ o. Breaks inner s (final_plan buffer s.held f o) x heard) (finds loaded) breaks)
         loaded

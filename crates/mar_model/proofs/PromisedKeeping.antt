@@ -1,5 +1,5 @@
 -- Blocks that are kept for a caller, and a sync of the cache that finishes: what is promised of them comes of their plans.
-use Rattle.std.proofs.Common.{◌≡◌, inl, inr, ◌∷◌, ◌++◌, [], List, Option, Some, Bool, true, false, cond, nat_lt, ◌==◌, ◌||◌, ◌<◌, ◌≤◌, eqb-true, ℕ, refl, sym, ◌∙◌, ap, subst, Contains, append-nil}
+use Rattle.std.proofs.Common.{◌≡◌, inl, inr, ◌∷◌, ◌++◌, [], List, Option, Some, Bool, true, false, cond, nat_lt, ◌==◌, ◌||◌, ◌<◌, eqb-true, ℕ, refl, sym, ◌∙◌, ap, subst, Contains, append-nil}
 use Rattle.std.specs.List.{AllByRecursion, list_any}
 use Rattle.std.specs.Prelude.{flat_map}
 use Rattle.std.proofs.lemmas.Bool.{cases_lt}
@@ -66,7 +66,7 @@ module _ {P E : Type 0} (life : Remembered P E) (epochs : Epochs) (inner : List 
     -- VERIFIED BLOCKS
 
     verified_quiet : (config : Config) (waiting : Waiting) → LeavesArchives config (node_at s buffer waiting) (message_told (Some k) (verified r b))
-    verified_quiet config waiting = record { effect = refl; undrained = refl; processed = refl; cutoff = refl; storing = refl; position = refl; syncs = refl; witnessing = refl; no_fault = refl; asks = refl; subscriptions = refl; unrefused = λ fault. refl }
+    verified_quiet config waiting = record { effect = refl; undrained = refl; processed = refl; cutoff = refl; storing = refl; position = refl; syncs = refl; witnessing = refl; no_fault = refl; asks = refl; subscriptions = refl; unrefused = λ fault. refl; once = refl; no_pass = λ n'. refl }
 
     pub kept_verified : KeepsPlan life epochs inner buffer s ((does (keeps_for (keep_verified r b k)) ∷ [])) (message_told (Some k) (verified r b))
     kept_verified = record {
@@ -110,7 +110,7 @@ module _ {P E : Type 0} (life : Remembered P E) (epochs : Epochs) (inner : List 
 
     module _ (peers : Peers) where
       proposed_quiet : (config : Config) (waiting : Waiting) → LeavesArchives config (node_at s buffer waiting) (message_told (Some k) (proposed r peers b))
-      proposed_quiet config waiting = record { effect = refl; undrained = refl; processed = refl; cutoff = refl; storing = refl; position = refl; syncs = refl; witnessing = refl; no_fault = refl; asks = refl; subscriptions = refl; unrefused = λ fault. refl }
+      proposed_quiet config waiting = record { effect = refl; undrained = refl; processed = refl; cutoff = refl; storing = refl; position = refl; syncs = refl; witnessing = refl; no_fault = refl; asks = refl; subscriptions = refl; unrefused = λ fault. refl; once = refl; no_pass = λ n'. refl }
 
       pub kept_proposed : KeepsPlan life epochs inner buffer s ((does (says (send (sent_block r peers b))) ∷ does (keeps_for (keep_verified r b k)) ∷ [])) (message_told (Some k) (proposed r peers b))
       kept_proposed = record {
@@ -159,7 +159,7 @@ module _ {P E : Type 0} (life : Remembered P E) (epochs : Epochs) (inner : List 
     -- CERTIFIED BLOCKS
 
     certified_quiet : (config : Config) (waiting : Waiting) → LeavesArchives config (node_at s buffer waiting) (message_told (Some k) (certify r b))
-    certified_quiet config waiting = record { effect = refl; undrained = refl; processed = refl; cutoff = refl; storing = refl; position = refl; syncs = refl; witnessing = refl; no_fault = refl; asks = refl; subscriptions = refl; unrefused = λ fault. refl }
+    certified_quiet config waiting = record { effect = refl; undrained = refl; processed = refl; cutoff = refl; storing = refl; position = refl; syncs = refl; witnessing = refl; no_fault = refl; asks = refl; subscriptions = refl; unrefused = λ fault. refl; once = refl; no_pass = λ n'. refl }
 
     abbrev was_verified : Bool
     was_verified = is_verified_in s.held r b

@@ -1,5 +1,5 @@
 -- A reported notarization is kept, and then its block where that is at hand: what is promised of it comes of its plan.
-use Rattle.std.proofs.Common.{◌≡◌, ◌⊎◌, inl, inr, ◌∷◌, ◌++◌, [], List, Option, None, Some, Ok, Bool, true, false, cond, map, Contains, nat_lt, ℕ, zero, suc, arith, refl, sym, ◌∙◌, ap, subst, append-nil}
+use Rattle.std.proofs.Common.{◌≡◌, inl, inr, ◌∷◌, ◌++◌, [], List, Option, None, Some, Ok, Bool, true, false, cond, map, Contains, nat_lt, ℕ, zero, suc, arith, refl, sym, ◌∙◌, ap, subst, append-nil}
 use Rattle.std.specs.List.{AllByRecursion}
 use Rattle.mar_types.specs.Epochs.{Epochs}
 use Rattle.mar_types.specs.Round.{Round}
@@ -142,6 +142,8 @@ module _ {P E : Type 0} (life : Remembered P E) (epochs : Epochs) (inner : List 
       asks = refl;
       subscriptions = ap (λ xs. xs ++ []) (leaves_none (at_hand (node_at s buffer waiting) f.payload));
       unrefused = λ fault. refl;
+      once = refl;
+      no_pass = λ n'. refl;
     }
 
     -- each task is its own, and says nothing

@@ -36,7 +36,7 @@ module _ {P E : Type 0} (life : Remembered P E) (epochs : Epochs) (inner : List 
   module _ (f : Notarization) where
     idle : (config : Config) (waiting : Waiting) → IsIdle config (node_at s buffer waiting) (message_told None (report_certification f))
     idle config waiting = record {
-      rest = record { effect = refl; undrained = refl; processed = refl; cutoff = refl; storing = refl; position = refl; syncs = refl; witnessing = refl; no_fault = refl; asks = refl; subscriptions = refl; unrefused = λ fault. refl };
+      rest = record { effect = refl; undrained = refl; processed = refl; cutoff = refl; storing = refl; position = refl; syncs = refl; witnessing = refl; no_fault = refl; asks = refl; subscriptions = refl; unrefused = λ fault. refl; once = refl; no_pass = λ n'. refl };
       unput = λ after. refl;
       unfinished = λ xs. refl;
       uncovered = refl;
@@ -58,7 +58,7 @@ module _ {P E : Type 0} (life : Remembered P E) (epochs : Epochs) (inner : List 
   module _ (r : Round) (peers : Peers) (b : Block) where
     sends : (config : Config) (waiting : Waiting) → IsIdle config (node_at s buffer waiting) (message_told None (prepared r peers b))
     sends config waiting = record {
-      rest = record { effect = refl; undrained = refl; processed = refl; cutoff = refl; storing = refl; position = refl; syncs = refl; witnessing = refl; no_fault = refl; asks = refl; subscriptions = refl; unrefused = λ fault. refl };
+      rest = record { effect = refl; undrained = refl; processed = refl; cutoff = refl; storing = refl; position = refl; syncs = refl; witnessing = refl; no_fault = refl; asks = refl; subscriptions = refl; unrefused = λ fault. refl; once = refl; no_pass = λ n'. refl };
       unput = λ after. refl;
       unfinished = λ xs. refl;
       uncovered = refl;

@@ -7,29 +7,34 @@ use Rattle.mar_cert.specs.Finalization.{Finalization}
 use Rattle.mar_store.specs.Kept.{At}
 use Rattle.mar_key.specs.Hears.{Hears}
 use Rattle.mar_model.specs.Event.{life_started}
-use Rattle.mar_model.specs.Held.{Ending, IsUsual, Loses, Remembered, Seen, nothing_written, seen}
-use Rattle.mar_model.specs.Moves.{IsRead, LoadsCache, newest_tips, newest_tip, with_newest, with_watches}
+use Rattle.mar_model.specs.Held.{Ending, IsUsual, Loses, Remembered, Seen, nothing_written}
 use Rattle.mar_model.specs.Promise.{Heard, KeepsPromise, KeepsStart, heard_by}
 use Rattle.mar_model.specs.Stored.{newest}
 use Rattle.mar_model.specs.Faults.{want_of_memory}
-use Rattle.mar_model.specs.Acts.{AreLawful, LosesOver, TakesUpCache, caches, load_cache, says, tell}
+use Rattle.mar_model.specs.Acts.{AreLawful, LosesOver, caches, load_cache, says, stores, sync_writes, tell}
 use Rattle.mar_model.specs.Plans.{newest_plan, start_plan}
-use Rattle.mar_model.specs.Ran.{Breaks, DoesTask, FailsRead, FailsTask, Reads, Runs, Task, dispatches, does}
+use Rattle.mar_model.specs.Ran.{Breaks, DoesTask, FailsRead, FailsTask, Reads, Runs, RunsPass, Task, dispatches, does, repairs}
 use Rattle.mar_model.specs.Scene.{Scene}
 use Rattle.mar_model.proofs.Growing.{Grew-refl, WithinWritten-refl}
 use Rattle.mar_model.proofs.Handing.{Hears-nothing, Ran as Dispatched}
 use Rattle.mar_model.proofs.Outcomes.{goes_on_memory}
-use Rattle.mar_model.proofs.StartEvent.{promise-start, promise-unloaded, promise-untold}
+use Rattle.mar_model.proofs.StartBroke.{start_broke, told-none, told-some}
+use Rattle.mar_model.proofs.StartCuts.{HasToldNewest, filling_plan}
+use Rattle.mar_model.proofs.StartEvent.{promise-unloaded, promise-untold}
+use Rattle.mar_model.proofs.StartPass.{promise-passed}
+use Rattle.mar_model.proofs.Acting.{pass_quiet}
+use Rattle.mar_model.proofs.Living.{Runs-keeps}
+use Rattle.mar_model.proofs.Running.{Reads-refl}
 use Rattle.mar_model.proofs.SyncPromise.{at}
 use Rattle.mar_model.proofs.Unread.{breaks_first, lost_before, runs_first}
-use Rattle.mar_model.proofs.Stopping.{dispatch_broke, dispatch_ran, start_beside}
+use Rattle.mar_model.proofs.Stopping.{dispatch_ran, start_beside}
 
 module _ {P E : Type 0} (life : Remembered P E) (epochs : Epochs) (inner : List ℕ → List ℕ) (partition : IsPartition epochs) (buffer : List Block) (s : Scene) (law : AreLawful s.held) where
   abbrev Started : Heard → Result (Seen P E) Ending → Type 0
   Started heard result = KeepsStart epochs inner (at life s) (life_started None ∷ []) buffer s.heard heard result
 
   abbrev behind : List Task
-  behind = does (caches load_cache) ∷ dispatches ∷ []
+  behind = does (caches load_cache) ∷ repairs buffer ∷ filling_plan
 
   -- nothing was asked
   told_beside : (heard : Heard) (result : Result (Seen P E) Ending) → heard ≡ record s.heard { reports = heard.reports }
@@ -39,81 +44,60 @@ module _ {P E : Type 0} (life : Remembered P E) (epochs : Epochs) (inner : List 
       (subst (λ a. KeepsStart epochs inner (at life s) (life_started None ∷ []) buffer (heard_by s.heard.reports s.heard.asks) (heard_by heard.reports a) result)
       (sym (ap (λ (h : Heard). h.asks) same)) keeps)
 
-  -- what a start has told is the newest, of the same stores
-  record Told (m : Scene) : Type 0 where
-    pub held : m.held ≡ s.held
-    pub read : IsRead (with_newest (at life s)) (at life m)
-    pub tips : Hears s.heard.reports (newest_tips inner s.life.tip (newest s.held.certs.held)) m.heard.reports
-    pub heard : m.heard ≡ record s.heard { reports = m.heard.reports }
+  module _ (m : Scene) (told : HasToldNewest inner s m) where
+    held_m : m.held ≡ s.held
+    held_m = ap (λ (y : Scene). y.held) told.same
 
-  told_none : newest s.held.certs.held ≡ None → Told s
-  told_none is = record {
-    held = refl;
-    read = ap (λ o. seen s.held (record life { sizes = s.life.sizes; out = s.life.out; tip = newest_tip s.life.tip o; next_ack = s.life.next_ack })) (sym is);
-    tips = subst (λ o. Hears s.heard.reports (newest_tips inner s.life.tip o) s.heard.reports) (sym is) (Hears-nothing s.heard.reports);
-    heard = refl;
-  }
+    heard_m : m.heard ≡ record s.heard { reports = m.heard.reports }
+    heard_m = ap (λ (y : Scene). y.heard) told.same
 
-  told_some : (x : At Finalization) → newest s.held.certs.held ≡ Some x → (m : Scene) → DoesTask inner (does (says (tell x.value.round x.height (inner x.value.payload)))) s m → Told m
-  told_some x is m (tips, same) = record {
-    held = ap (λ (y : Scene). y.held) same;
-    read = ap (at life) same ∙ (ap (λ o. seen s.held (record life { sizes = s.life.sizes; out = s.life.out; tip = newest_tip s.life.tip o; next_ack = s.life.next_ack })) (sym is) ∙ ap
-        (λ w. with_watches (with_newest (at life s)) w) (sym (ap (λ (y : Scene). y.held.watches) same)));
-    tips = subst (λ o. Hears s.heard.reports (newest_tips inner s.life.tip o) m.heard.reports) (sym is) tips;
-    heard = ap (λ (y : Scene). y.heard) same;
-  }
-
-  module _ (m : Scene) (told : Told m) where
     lawful_told : AreLawful m.held
-    lawful_told = subst AreLawful (sym told.held) law
+    lawful_told = subst AreLawful (sym held_m) law
 
     -- what a call lost behind the tip
     lost : (x : Ending) → LosesOver m.held nothing_written x → Loses s.held nothing_written x
-    lost x over = subst (λ h. Loses h nothing_written x) told.held
+    lost x over = subst (λ h. Loses h nothing_written x) held_m
         (over m.held nothing_written (Grew-refl m.held nothing_written lawful_told.blocks lawful_told.certs) (WithinWritten-refl nothing_written))
 
     unloaded : (x : Ending) (heard : Heard) → LosesOver m.held nothing_written x → IsUsual x.fault → heard ≡ m.heard → Started heard (Err x)
     unloaded x heard over usual is = subst (λ h. Started h (Err x)) (sym is)
-        (told_beside m.heard (Err x) told.heard (promise-unloaded epochs inner partition (at life s) buffer s.heard.reports m.heard.reports s.heard.asks x told.tips (lost x over) usual))
+        (told_beside m.heard (Err x) heard_m (promise-unloaded epochs inner partition (at life s) buffer s.heard.reports m.heard.reports s.heard.asks x told.tips (lost x over) usual))
 
-    loads : (n : Scene) → TakesUpCache m.held n.held → n ≡ record m { held = n.held } → LoadsCache (at life m) (at life n)
-    loads n takes same = record {
-      loads = takes.loads;
-      by_luck = takes.by_luck;
-      loaded = takes.loaded;
-      still_open = takes.still_open;
-      same = ap (at life) same ∙ ap
-          (λ h. seen h (record life { sizes = m.life.sizes; out = m.life.out; tip = m.life.tip; next_ack = m.life.next_ack })) takes.same;
-    }
+    -- the cache was taken up, gaps were filled, and what that wrote was made durable
+    filled : (n : Scene) → DoesTask inner (does (caches load_cache)) m n → (t : Scene) → RunsPass inner buffer n t → AreLawful t.held → (v : Scene) → DoesTask inner (does (stores sync_writes)) t v
+        → (w : Scene) → Runs inner v (dispatches ∷ []) w → Started w.heard (Ok (at life w))
+    filled n did t pass lawful_t v (syncs, joins, lawful_v, same) w runs =
+        let (ran, quiet) = dispatch_ran life inner v w lawful_v runs in
+        start_beside epochs inner (at life s) (life_started None ∷ []) buffer (Ok (at life w)) s.heard w.heard (heard_w quiet)
+        (subst (λ a. KeepsStart epochs inner (at life s) (life_started None ∷ []) buffer (heard_by s.heard.reports s.heard.asks) (heard_by w.heard.reports a) (Ok (at life w)))
+        (sym (ap (λ (h : Heard). h.asks) quiet ∙ ap (λ (y : Scene). y.heard.asks) same))
+        (promise-passed life epochs inner buffer s m n law told did t pass lawful_t v.held syncs
+        (joins t.held nothing_written (Grew-refl t.held nothing_written lawful_t.blocks lawful_t.certs) (WithinWritten-refl nothing_written)) lawful_v w.heard.reports (Ok (at life w))
+        (subst (λ y. Dispatched (at life y) y.heard.reports w.heard.reports (Ok (at life w))) same ran)))
+      where
+        heard_w : w.heard ≡ record v.heard { reports = w.heard.reports } → w.heard ≡ record s.heard { reports = w.heard.reports; asks = w.heard.asks }
+        heard_w quiet =
+            quiet ∙ (ap (λ (h : Heard). record h { reports = w.heard.reports }) (ap (λ (y : Scene). y.heard) same ∙ (pass_quiet inner buffer n t pass ∙ ap
+            (λ (h : Heard). record h { reports = t.heard.reports; asks = t.heard.asks }) (ap (λ (y : Scene). y.heard) did.3 ∙ heard_m)))
+            ∙ ap (λ a. record s.heard { reports = w.heard.reports; asks = a }) (sym (ap (λ (h : Heard). h.asks) quiet ∙ ap (λ (y : Scene). y.heard.asks) same)))
 
-    heard_then : (n t : Heard) → n ≡ m.heard → t ≡ record n { reports = t.reports } → t ≡ record s.heard { reports = t.reports }
-    heard_then n t is same = same ∙ (ap (λ (h : Heard). record h { reports = t.reports }) is ∙ ap (λ (h : Heard). record h { reports = t.reports }) told.heard)
-
-    started : (n : Scene) (result : Result (Seen P E) Ending) (heard : Heard) → DoesTask inner (does (caches load_cache)) m n → Dispatched (at life n) n.heard.reports heard.reports result
-        → heard ≡ record n.heard { reports = heard.reports } → Started heard result
-    started n result heard did ran same =
-        let now : n.heard ≡ m.heard = ap (λ (y : Scene). y.heard) did.3 in
-        told_beside heard result (heard_then n.heard heard now same)
-        (promise-start epochs inner partition (at life s) buffer s.heard.reports m.heard.reports heard.reports s.heard.asks (at life m) (at life n) result law.blocks law.certs law.cached
-        told.read (loads n did.0 did.3) told.tips
-        (subst (λ told. Dispatched (at life n) told heard.reports result) (ap (λ (h : Heard). h.reports) now) ran))
-
-    behind_ran : (t : Scene) → Runs inner m behind t → Started t.heard (Ok (at life t))
-    behind_ran t runs =
-        let (n, did, rest) = runs_first inner (does (caches load_cache)) (dispatches ∷ []) m t lawful_told runs in
-        let (ran, same) = dispatch_ran life inner n t did.2 rest in
-        started n (Ok (at life t)) t.heard did ran same
+    behind_ran : (w : Scene) → Runs inner m behind w → Started w.heard (Ok (at life w))
+    behind_ran w runs =
+        let (n, did, rest) = runs_first inner (does (caches load_cache)) (repairs buffer ∷ filling_plan) m w lawful_told runs in
+        let (t, pass, left) = runs_first inner (repairs buffer) filling_plan n w did.2 rest in
+        let kept = Runs-keeps inner n.life.sizes.window (repairs buffer ∷ []) n t refl (n, t, Reads-refl n, pass, Reads-refl t) in
+        let lawful_t = kept.lawful did.2 in
+        let (v, synced, last) = runs_first inner (does (stores sync_writes)) (dispatches ∷ []) t w lawful_t left in
+        filled n did t pass lawful_t v synced w last
 
     behind_broke : (x : Ending) (heard : Heard) → Breaks inner m behind x heard → Started heard (Err x)
-    behind_broke x heard breaks = by (breaks_first inner (does (caches load_cache)) (dispatches ∷ []) m x heard lawful_told breaks)
+    behind_broke x heard breaks = by (breaks_first inner (does (caches load_cache)) (repairs buffer ∷ filling_plan) m x heard lawful_told breaks)
       where
-        by : FailsRead m x heard ⊎ (((mid : Scene) × Reads m mid × FailsTask (does (caches load_cache)) mid x heard) ⊎
-            ((n : Scene) × DoesTask inner (does (caches load_cache)) m n × Breaks inner n (dispatches ∷ []) x heard)) → Started heard (Err x)
+        by : FailsRead m x heard ⊎ (((mid : Scene) × Reads m mid × FailsTask inner (does (caches load_cache)) mid x heard) ⊎
+            ((n : Scene) × DoesTask inner (does (caches load_cache)) m n × Breaks inner n (repairs buffer ∷ filling_plan) x heard)) → Started heard (Err x)
         by (inl fails) = unloaded x heard fails.loses fails.usual fails.same
         by (inr (inl (mid, reads, (over, usual, same)))) = unloaded x heard (lost_before inner m mid nothing_written x reads over) usual (same ∙ ap (λ (y : Scene). y.heard) reads.same)
-        by (inr (inr (n, did, rest))) =
-            let (stops, same) = dispatch_broke life inner n x heard did.2 rest in
-            subst (λ y. Started heard (Err y)) stops.seems (started n (Err stops.e) heard did stops.ran same)
+        by (inr (inr (n, did, rest))) = start_broke life epochs inner buffer s m n told did x heard rest
 
   untold : (x : Ending) (heard : Heard) → LosesOver s.held nothing_written x → IsUsual x.fault → Hears s.heard.reports [] heard.reports → heard ≡ record s.heard { reports = heard.reports }
       → Started heard (Err x)
@@ -121,24 +105,24 @@ module _ {P E : Type 0} (life : Remembered P E) (epochs : Epochs) (inner : List 
       (promise-untold epochs inner partition (at life s) buffer s.heard.reports heard.reports s.heard.asks x silent
       (over s.held nothing_written (Grew-refl s.held nothing_written law.blocks law.certs) (WithinWritten-refl nothing_written)) usual)
 
-  pub start_promise : (t : Scene) → Runs inner s (start_plan inner s.held) t → KeepsPromise (life_started None ∷ []) epochs inner (at life s) buffer s.heard t.heard (Ok (at life t))
+  pub start_promise : (t : Scene) → Runs inner s (start_plan inner buffer s.held) t → KeepsPromise (life_started None ∷ []) epochs inner (at life s) buffer s.heard t.heard (Ok (at life t))
   start_promise t runs = by (newest s.held.certs.held) refl runs
     where
       by : (o : Option (At Finalization)) → newest s.held.certs.held ≡ o → Runs inner s (newest_plan inner o ++ behind) t → Started t.heard (Ok (at life t))
-      by None is runs = behind_ran s (told_none is) t runs
+      by None is runs = behind_ran s (told-none inner s is) t runs
       by (Some x) is runs =
           let (m, did, rest) = runs_first inner (does (says (tell x.value.round x.height (inner x.value.payload)))) behind s t law runs in
-          behind_ran m (told_some x is m did) t rest
+          behind_ran m (told-some inner s m x is did) t rest
 
-  pub start_cut : (x : Ending) (heard : Heard) → Breaks inner s (start_plan inner s.held) x heard
+  pub start_cut : (x : Ending) (heard : Heard) → Breaks inner s (start_plan inner buffer s.held) x heard
       → KeepsPromise (life_started None ∷ []) epochs inner (at life s) buffer s.heard heard (Err x)
   start_cut x heard breaks = by (newest s.held.certs.held) refl breaks
     where
       by : (o : Option (At Finalization)) → newest s.held.certs.held ≡ o → Breaks inner s (newest_plan inner o ++ behind) x heard → Started heard (Err x)
-      by None is breaks = behind_broke s (told_none is) x heard breaks
+      by None is breaks = behind_broke s (told-none inner s is) x heard breaks
       by (Some y) is breaks = from (breaks_first inner (does (says (tell y.value.round y.height (inner y.value.payload)))) behind s x heard law breaks)
         where
-          from : FailsRead s x heard ⊎ (((mid : Scene) × Reads s mid × FailsTask (does (says (tell y.value.round y.height (inner y.value.payload)))) mid x heard) ⊎
+          from : FailsRead s x heard ⊎ (((mid : Scene) × Reads s mid × FailsTask inner (does (says (tell y.value.round y.height (inner y.value.payload)))) mid x heard) ⊎
               ((m : Scene) × DoesTask inner (does (says (tell y.value.round y.height (inner y.value.payload)))) s m × Breaks inner m behind x heard)) → Started heard (Err x)
           from (inl fails) = untold x heard fails.loses fails.usual (subst (λ (h : Heard). Hears s.heard.reports [] h.reports) (sym fails.same) (Hears-nothing s.heard.reports))
               (fails.same ∙ ap (λ told. record s.heard { reports = told }) (sym (ap (λ (h : Heard). h.reports) fails.same)))
@@ -148,4 +132,4 @@ module _ {P E : Type 0} (life : Remembered P E) (epochs : Epochs) (inner : List 
               (subst (λ (z : Ending). IsUsual z.fault) (sym is_memory) tt)
               (subst (λ (h : Heard). Hears h.reports [] heard.reports) (ap (λ (z : Scene). z.heard) reads.same) silent)
               (same ∙ ap (λ (z : Scene). record z.heard { reports = heard.reports }) reads.same)
-          from (inr (inr (m, did, rest))) = behind_broke m (told_some y is m did) x heard rest
+          from (inr (inr (m, did, rest))) = behind_broke m (told-some inner s m y is did) x heard rest

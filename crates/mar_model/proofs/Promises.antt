@@ -1,5 +1,5 @@
 -- An event that reached some node, and handed over from there, is a step or a cut.
-use Rattle.std.proofs.Common.{◌≡◌, ◌⊎◌, inr, ℕ, ◌+◌, ◌<◌, ◌≤◌, List, [], ◌∷◌, ◌++◌, length, map, false, Option, Some, option_map, Result, Ok, Err, IsTrue, Contains, refl, sym, ◌∙◌, ap, subst, arith, append-nil, ap₂}
+use Rattle.std.proofs.Common.{◌≡◌, ◌⊎◌, inr, ℕ, ◌+◌, ◌<◌, ◌≤◌, List, [], ◌∷◌, ◌++◌, length, map, false, Option, Some, option_map, Result, Ok, Err, IsTrue, Contains, refl, sym, ◌∙◌, ap, subst, arith, append-nil, ap₂, inl}
 use Rattle.std.specs.List.{AllByRecursion}
 use Rattle.mar_cert.specs.Block.{Block}
 use Rattle.mar_key.specs.Hears.{Hears}
@@ -15,12 +15,12 @@ use Rattle.mar_model.specs.Config.{Config}
 use Rattle.mar_model.specs.Event.{Event, cutoff_after, no_floor, processed_after, undrained_blocks}
 use Rattle.mar_model.specs.Faults.{Fault, is_by_value, next_after}
 use Rattle.mar_model.specs.Held.{Ending, LeavesStore, Seen, blocks_left, cache_left, certs_left, seen}
-use Rattle.mar_model.specs.Lives.{Cuts, NotBelow, Reached, is_dropped_ack, is_refused_floor, reached_after}
+use Rattle.mar_model.specs.Lives.{Cuts, NotBelow, Reached, is_dropped_ack, is_refused_floor, reached_after, AsksUntilCut}
 use Rattle.mar_model.specs.Moves.{IsStarted, IsStill, handed_report, next_in, with_handed}
 use Rattle.mar_model.specs.Node.{Ended, IsGood, Node, Rest}
 use Rattle.mar_gate.specs.Writing.{total_writes}
 use Rattle.mar_model.specs.Promise.{FinishesStep, IsGoodUntold, IsLawfulStep, StepsOrCuts, Waiting, asked_since, heard_by, made_of, node_of, knowing, IsKnownSince}
-use Rattle.mar_model.specs.Requests.{own_asks}
+use Rattle.mar_model.specs.Requests.{own_asks, IsRepairFetch, is_pass, may_repair, repairs_twice}
 use Rattle.mar_model.specs.Sound.{IsSafePair}
 use Rattle.mar_model.specs.Step.{AreHandedOf, HandedBlock, HandedFrom, Report, Steps, handed_blocks}
 use Rattle.mar_model.proofs.Cutting.{Cuts-left, LeavesStores, MayBeLeft, contains_first, keeps_heights, keeps_sure, never, only_one, some_from_first}
@@ -29,12 +29,13 @@ use Rattle.mar_model.proofs.FloorSafety.{next_after-is}
 use Rattle.mar_model.proofs.Growing.{LeavesStore-then}
 use Rattle.mar_model.proofs.Handing.{AreHandedOf-values, HandedFrom-held, Hears-then, Ran, sure_below, sure_value, with_handed-none, Stops}
 use Rattle.mar_model.proofs.OutstandingLemmas.{first_unprocessed-rises}
-use Rattle.mar_model.proofs.Reaching.{HandsSure-next, HandsSure-none, IsGood-handed, Reaches, Rest-still, Steps-reached, Steps-started, handed_after_tips, next_is, tips_before_handed, tips_of_both}
+use Rattle.mar_model.proofs.Reaching.{HandsSure-next, HandsSure-none, IsGood-handed, Reaches, ReachesBy, Rest-still, Steps-reached, Steps-started, handed_after_tips, next_is, tips_before_handed, tips_of_both, unpassed}
+use Rattle.mar_model.proofs.SyncTickets.{IsTicketed}
 use Rattle.mar_model.proofs.Soundness.{from_none, IsSafePair-kept, own_pair_safe, untold}
 
-module _ {P E : Type 0} (config : Config) (chain : Chain) (a m : Seen P E) (e : Event) (buffer : List Block) (waiting : Waiting) (tips : List Report)
+module _ {P E : Type 0} (config : Config) (chain : Chain) (a m : Seen P E) (e : Event) (buffer : List Block) (waiting : Waiting) (tips : List Report) (more : List Call)
     (window : config.window ≡ m.life.sizes.window) (step : IsLawfulStep config chain (node_of a buffer waiting) (e ∷ [])) (unrefused : (fault : Fault) → is_refused_floor e fault ≡ false)
-    (reach : Reaches config chain a e buffer waiting tips m) (good : IsGood config chain (node_of m buffer waiting)) (unwritten : total_writes m.held.writes ≤ total_writes a.held.writes) (sure_held : KeepsValues m.held.blocks.sure m.held.blocks.held)
+    (reach : ReachesBy config chain a e buffer waiting tips more m) (good : IsGood config chain (node_of m buffer waiting)) (ticketed : IsTicketed a.held.writes m.held.writes) (sure_held : KeepsValues m.held.blocks.sure m.held.blocks.held)
   where
     abbrev pub n : Node
     n = node_of a buffer waiting
@@ -42,6 +43,14 @@ module _ {P E : Type 0} (config : Config) (chain : Chain) (a m : Seen P E) (e : 
     -- the node before, once some tip is told
     good_before : IsGoodUntold config chain n
     good_before = untold config chain n e step.good
+
+    -- all of it was asked
+    asked : AsksUntilCut config chain n e no_floor (own_asks config n e no_floor ++ more)
+    asked = by reach.fetches
+      where
+        by : (more ≡ []) ⊎ (IsTrue (may_repair e) × AllByRecursion (IsRepairFetch chain) more) → AsksUntilCut config chain n e no_floor (own_asks config n e no_floor ++ more)
+        by (inl none) = inl ([], sym (append-nil (own_asks config n e no_floor ++ more) ∙ (ap (λ xs. own_asks config n e no_floor ++ xs) none ∙ append-nil (own_asks config n e no_floor))))
+        by (inr (may, fetches)) = inr (may, more, refl, fetches)
 
     -- the pair of the reached node is what the event gives to the metadata
     pub pair_is : pair_of (processed_after n e no_floor) (cutoff_after config n e no_floor) ≡ pair_of m.held.processed m.held.cutoff
@@ -118,9 +127,9 @@ module _ {P E : Type 0} (config : Config) (chain : Chain) (a m : Seen P E) (e : 
       processed_is = ap (option_map height_in) (sym reach.processed)
 
       -- a life that ended while blocks were handed over is cut there
-      pub Cuts-handing : Cuts config chain n (e ∷ []) (made_of (tips ++ map handed_report handed) (own_asks config n e no_floor)) x.fault left
+      pub Cuts-handing : Cuts config chain n (e ∷ []) (made_of (tips ++ map handed_report handed) (own_asks config n e no_floor ++ more)) x.fault left
       Cuts-handing =
-          Cuts-left config chain a e buffer waiting good_before.0 good_before.1 reach.no_effect [] (sends_of n e, refl) (tips ++ map handed_report handed) (own_asks config n e no_floor) m.life.tip reached x.fault left
+          Cuts-left config chain a e buffer waiting good_before.0 good_before.1 reach.no_effect [] (sends_of n e, refl) (tips ++ map handed_report handed) (own_asks config n e no_floor ++ more) m.life.tip reached x.fault left
           (tips_before_handed a.life.tip m.life.tip tips handed reach.are_tips reach.tips_rise) (tips_of_both chain tips handed reach.are_tips reach.tips_chain)
           (inr (refl, subst (Contains (map (λ p. p.processed) left.meta)) (sym processed_is) (contains_first left.meta (pair_of m.held.processed m.held.cutoff) first)))
           (subst (λ p. HandedFrom left.blocks_sure a.life.next_ack (next_after p + length (undrained_blocks n e)) (handed_blocks (tips ++ map handed_report handed))) (sym processed_is)
@@ -132,42 +141,62 @@ module _ {P E : Type 0} (config : Config) (chain : Chain) (a m : Seen P E) (e : 
           (λ is. absurd (never (is_by_value x.fault) stops.no_value is))
           (never (is_refused_floor e x.fault) (unrefused x.fault))
           (λ is. absurd (never (is_dropped_ack x.fault) stops.undropped is))
-          ([], sym (append-nil (own_asks config n e no_floor)))
+          asked
 
     -- what a dispatch from the reached node makes of the step
-    pub dispatched : (told told1 told' : Option (List Report)) (heard heard' : Option (List Call)) (result : Result (Seen P E) Ending) → Hears told tips told1 → Ran m told1 told' result → Hears heard (own_asks config n e no_floor) heard' → StepsOrCuts config chain n (e ∷ []) (heard_by told heard) (heard_by told' heard') result
-    dispatched told told1 told' heard heard' (Ok d) tips_heard (handed, handed_heard, ran) asks_heard = record {
-      made = made_of (tips ++ map handed_report handed) (own_asks config n e no_floor);
+    pub dispatched-by : (told told1 told' : Option (List Report)) (heard heard' : Option (List Call)) (result : Result (Seen P E) Ending) → Hears told tips told1 → Ran m told1 told' result → Hears heard (own_asks config n e no_floor ++ more) heard' → StepsOrCuts config chain n (e ∷ []) (heard_by told heard) (heard_by told' heard') result
+    dispatched-by told told1 told' heard heard' (Ok d) tips_heard (handed, handed_heard, ran) asks_heard = record {
+      made = made_of (tips ++ map handed_report handed) (own_asks config n e no_floor ++ more);
       heard = record { reports = Hears-then told told1 told' tips (map handed_report handed) tips_heard handed_heard; asks = asks_heard; sends = refl; answers = refl };
-      steps = λ certified known. subst (λ s. Steps config chain n (e ∷ []) (made_of (tips ++ map handed_report handed) (own_asks config n e no_floor)) (node_of (seen s.held s.life) buffer (knowing certified (asked_since waiting (own_asks config n e no_floor))))) (sym ran.same)
-          (Steps-reached config chain a m e buffer waiting tips handed step.reported.0 good_before.1.of_chain.asks.requests reach (HandsSure-next config chain m buffer waiting handed good sure_held ran.next ran.below_barrier) certified (subst (λ s. IsKnownSince config n e s.life.tip certified) ran.same known) unwritten handed_good
+      steps = λ certified known. subst (λ s. Steps config chain n (e ∷ []) (made_of (tips ++ map handed_report handed) (own_asks config n e no_floor ++ more)) (node_of (seen s.held s.life) buffer (knowing certified (asked_since waiting (own_asks config n e no_floor ++ more))))) (sym ran.same)
+          (Steps-reached config chain a m e buffer waiting tips more handed step.reported.0 good_before.1.of_chain.asks.requests reach (HandsSure-next config chain m buffer waiting handed good sure_held ran.next ran.below_barrier) certified (subst (λ s. IsKnownSince config n e s.life.tip certified) ran.same known) ticketed handed_good
           (Rest-still config chain (with_handed m handed) buffer waiting step.lawful window handed_good (subst IsStill ran.same ran.still)));
     }
       where
         handed_good : IsGood config chain (node_of (with_handed m handed) buffer waiting)
         handed_good = IsGood-handed config chain m buffer waiting handed window good ran.next ran.below_barrier ran.room
-    dispatched told told1 told' heard heard' (Err x) tips_heard (handed, handed_heard, stops) asks_heard = record {
-      made = made_of (tips ++ map handed_report handed) (own_asks config n e no_floor);
+    dispatched-by told told1 told' heard heard' (Err x) tips_heard (handed, handed_heard, stops) asks_heard = record {
+      made = made_of (tips ++ map handed_report handed) (own_asks config n e no_floor ++ more);
       heard = record { reports = Hears-then told told1 told' tips (map handed_report handed) tips_heard handed_heard; asks = asks_heard; sends = refl; answers = refl };
       cuts = Cuts-handing handed x stops;
     }
 
     -- what a step without a dispatch makes of it, where the reached node rests
-    pub undispatched : (told told' : Option (List Report)) (heard heard' : Option (List Call)) → Hears told tips told' → Hears heard (own_asks config n e no_floor) heard' → Rest config.window (node_of m buffer waiting) → FinishesStep config chain n (e ∷ []) (heard_by told heard) (heard_by told' heard') m.held m.life
-    undispatched told told' heard heard' tips_heard asks_heard rests = record {
-      made = made_of tips (own_asks config n e no_floor);
+    pub undispatched-by : (told told' : Option (List Report)) (heard heard' : Option (List Call)) → Hears told tips told' → Hears heard (own_asks config n e no_floor ++ more) heard' → Rest config.window (node_of m buffer waiting) → FinishesStep config chain n (e ∷ []) (heard_by told heard) (heard_by told' heard') m.held m.life
+    undispatched-by told told' heard heard' tips_heard asks_heard rests = record {
+      made = made_of tips (own_asks config n e no_floor ++ more);
       heard = record { reports = tips_heard; asks = asks_heard; sends = refl; answers = refl };
-      steps = λ certified known. subst (λ rs. Steps config chain n (e ∷ []) (made_of rs (own_asks config n e no_floor)) (node_of (seen m.held m.life) buffer (knowing certified (asked_since waiting (own_asks config n e no_floor))))) (append-nil tips)
-          (subst (λ s. Steps config chain n (e ∷ []) (made_of (tips ++ []) (own_asks config n e no_floor)) (node_of (seen s.held s.life) buffer (knowing certified (asked_since waiting (own_asks config n e no_floor))))) (with_handed-none m)
-          (Steps-reached config chain a m e buffer waiting tips [] step.reported.0 good_before.1.of_chain.asks.requests reach (HandsSure-none chain m) certified known unwritten (subst (λ s. IsGood config chain (node_of s buffer waiting)) (sym (with_handed-none m)) good) (subst (λ s. Rest config.window (node_of s buffer waiting)) (sym (with_handed-none m)) rests)));
+      steps = λ certified known. subst (λ rs. Steps config chain n (e ∷ []) (made_of rs (own_asks config n e no_floor ++ more)) (node_of (seen m.held m.life) buffer (knowing certified (asked_since waiting (own_asks config n e no_floor ++ more))))) (append-nil tips)
+          (subst (λ s. Steps config chain n (e ∷ []) (made_of (tips ++ []) (own_asks config n e no_floor ++ more)) (node_of (seen s.held s.life) buffer (knowing certified (asked_since waiting (own_asks config n e no_floor ++ more))))) (with_handed-none m)
+          (Steps-reached config chain a m e buffer waiting tips more [] step.reported.0 good_before.1.of_chain.asks.requests reach (HandsSure-none chain m) certified known ticketed (subst (λ s. IsGood config chain (node_of s buffer waiting)) (sym (with_handed-none m)) good) (subst (λ s. Rest config.window (node_of s buffer waiting)) (sym (with_handed-none m)) rests)));
     }
 
 -- An event that wrote ends with a sync that covers what it wrote.
-module _ {P E : Type 0} (config : Config) (chain : Chain) (a m : Seen P E) (e : Event) (buffer : List Block) (waiting : Waiting) (tips : List Report) (step : IsLawfulStep config chain (node_of a buffer waiting) (e ∷ [])) (reach : Reaches config chain a e buffer waiting tips m) where
-  pub started : (new : Seen P E) → IsStarted m new → total_writes a.held.writes < total_writes m.held.writes → 0 < length m.held.writes.uncovered → IsGood config chain (node_of new buffer waiting) → Rest config.window (node_of new buffer waiting) → (told told' : Option (List Report)) (heard heard' : Option (List Call)) → Hears told tips told' → Hears heard (own_asks config (node_of a buffer waiting) e no_floor) heard' → FinishesStep config chain (node_of a buffer waiting) (e ∷ []) (heard_by told heard) (heard_by told' heard') new.held new.life
-  started new is written some good rests told told' heard heard' tips_heard asks_heard = record {
-    made = made_of tips (own_asks config (node_of a buffer waiting) e no_floor);
+module _ {P E : Type 0} (config : Config) (chain : Chain) (a m : Seen P E) (e : Event) (buffer : List Block) (waiting : Waiting) (tips : List Report) (more : List Call) (step : IsLawfulStep config chain (node_of a buffer waiting) (e ∷ [])) (reach : ReachesBy config chain a e buffer waiting tips more m) where
+  pub started-by : (new : Seen P E) → IsStarted m new → total_writes a.held.writes < total_writes m.held.writes → 0 < length m.held.writes.uncovered → IsGood config chain (node_of new buffer waiting) → Rest config.window (node_of new buffer waiting) → (told told' : Option (List Report)) (heard heard' : Option (List Call)) → Hears told tips told' → Hears heard (own_asks config (node_of a buffer waiting) e no_floor ++ more) heard' → FinishesStep config chain (node_of a buffer waiting) (e ∷ []) (heard_by told heard) (heard_by told' heard') new.held new.life
+  started-by new is written some good rests told told' heard heard' tips_heard asks_heard = record {
+    made = made_of tips (own_asks config (node_of a buffer waiting) e no_floor ++ more);
     heard = record { reports = tips_heard; asks = asks_heard; sends = refl; answers = refl };
-    steps = λ certified known. subst (λ rs. Steps config chain (node_of a buffer waiting) (e ∷ []) (made_of rs (own_asks config (node_of a buffer waiting) e no_floor)) (node_of (seen new.held new.life) buffer (knowing certified (asked_since waiting (own_asks config (node_of a buffer waiting) e no_floor))))) (append-nil tips)
-        (Steps-started config chain a m e buffer waiting tips [] step.reported.0 (untold config chain (node_of a buffer waiting) e step.good).1.of_chain.asks.requests reach (HandsSure-none chain m) certified (subst (λ s. IsKnownSince config (node_of a buffer waiting) e s.life.tip certified) is known) new (subst (λ s. IsStarted s new) (sym (with_handed-none m)) is) written some good rests);
+    steps = λ certified known. subst (λ rs. Steps config chain (node_of a buffer waiting) (e ∷ []) (made_of rs (own_asks config (node_of a buffer waiting) e no_floor ++ more)) (node_of (seen new.held new.life) buffer (knowing certified (asked_since waiting (own_asks config (node_of a buffer waiting) e no_floor ++ more))))) (append-nil tips)
+        (Steps-started config chain a m e buffer waiting tips more [] step.reported.0 (untold config chain (node_of a buffer waiting) e step.good).1.of_chain.asks.requests reach (HandsSure-none chain m) certified (subst (λ s. IsKnownSince config (node_of a buffer waiting) e s.life.tip certified) is known) new (subst (λ s. IsStarted s new) (sym (with_handed-none m)) is) written some good rests);
   }
+
+-- AN EVENT THAT ASKS FOR NO MORE
+
+module _ {P E : Type 0} (config : Config) (chain : Chain) (a m : Seen P E) (e : Event) (buffer : List Block) (waiting : Waiting) (tips : List Report)
+    (window : config.window ≡ m.life.sizes.window) (step : IsLawfulStep config chain (node_of a buffer waiting) (e ∷ [])) (unrefused : (fault : Fault) → is_refused_floor e fault ≡ false)
+    (no_pass : (n' : Node) → is_pass (node_of a buffer waiting) e no_floor n' ≡ false) (once : repairs_twice e no_floor ≡ false)
+    (reach : Reaches config chain a e buffer waiting tips m) (good : IsGood config chain (node_of m buffer waiting)) (unwritten : total_writes m.held.writes ≤ total_writes a.held.writes) (sure_held : KeepsValues m.held.blocks.sure m.held.blocks.held)
+  where
+    more_none : (heard heard' : Option (List Call)) → Hears heard (own_asks config (node_of a buffer waiting) e no_floor) heard' → Hears heard (own_asks config (node_of a buffer waiting) e no_floor ++ []) heard'
+    more_none heard heard' asks = subst (λ xs. Hears heard xs heard') (sym (append-nil (own_asks config (node_of a buffer waiting) e no_floor))) asks
+
+    pub dispatched : (told told1 told' : Option (List Report)) (heard heard' : Option (List Call)) (result : Result (Seen P E) Ending) → Hears told tips told1 → Ran m told1 told' result
+        → Hears heard (own_asks config (node_of a buffer waiting) e no_floor) heard' → StepsOrCuts config chain (node_of a buffer waiting) (e ∷ []) (heard_by told heard) (heard_by told' heard') result
+    dispatched told told1 told' heard heard' result tips_heard ran asks =
+        dispatched-by config chain a m e buffer waiting tips [] window step unrefused (unpassed config chain a e buffer waiting tips m no_pass once reach) good (inl unwritten) sure_held told told1 told' heard heard' result tips_heard ran (more_none heard heard' asks)
+
+    pub undispatched : (told told' : Option (List Report)) (heard heard' : Option (List Call)) → Hears told tips told' → Hears heard (own_asks config (node_of a buffer waiting) e no_floor) heard'
+        → Rest config.window (node_of m buffer waiting) → FinishesStep config chain (node_of a buffer waiting) (e ∷ []) (heard_by told heard) (heard_by told' heard') m.held m.life
+    undispatched told told' heard heard' tips_heard asks rests =
+        undispatched-by config chain a m e buffer waiting tips [] window step unrefused (unpassed config chain a e buffer waiting tips m no_pass once reach) good (inl unwritten) sure_held told told' heard heard' tips_heard (more_none heard heard' asks) rests

@@ -1,5 +1,5 @@
 -- Queries: events that are answered from what stands, and change nothing.
-use Rattle.std.proofs.Common.{◌≡◌, ℕ, List, [], ◌∷◌, ◌++◌, true, Option, Some, None, option_to_list, IfSome, ◌<◌, ◌≤◌, bytes_eq, find, map, refl, sym, ◌∙◌, ap, arith}
+use Rattle.std.proofs.Common.{◌≡◌, ℕ, List, [], ◌∷◌, true, Option, Some, None, option_to_list, IfSome, ◌<◌, ◌≤◌, bytes_eq, find, map, refl, sym, ◌∙◌, ap, arith}
 use Rattle.std.specs.List.{filter_map}
 use Rattle.std.specs.Option.{option_or}
 use Rattle.std.specs.Prelude.{option_and_then}
@@ -51,12 +51,12 @@ module _ {P E : Type 0} (config : Config) (chain : Chain) (a : Seen P E) (buffer
       pub answers : (lowest : ℕ) → answers_of config n lowest (message_told (Some t) m) no_floor ≡ map (to t) (option_to_list (query_value config n m))
 
     pub query_is : (m : Message) → is_query (message_told (Some t) m) ≡ true → IsAnswered m
-    query_is (get_info id) is = record { idle = record { rest = record { effect = refl; undrained = refl; processed = refl; cutoff = refl; storing = refl; position = refl; syncs = refl; witnessing = refl; no_fault = refl; asks = refl; subscriptions = refl; unrefused = λ fault. refl }; unput = λ after. refl; unfinished = λ xs. refl; uncovered = refl; no_syncs = λ n'. refl }; sends = refl; found = refl; answers = λ lowest. refl }
-    query_is (get_block id) is = record { idle = record { rest = record { effect = refl; undrained = refl; processed = refl; cutoff = refl; storing = refl; position = refl; syncs = refl; witnessing = refl; no_fault = refl; asks = refl; subscriptions = refl; unrefused = λ fault. refl }; unput = λ after. refl; unfinished = λ xs. refl; uncovered = refl; no_syncs = λ n'. refl }; sends = refl; found = ap (λ b. Some (bytes_of b)) (block_found-is id); answers = λ lowest. refl }
-    query_is (get_finalization h) is = record { idle = record { rest = record { effect = refl; undrained = refl; processed = refl; cutoff = refl; storing = refl; position = refl; syncs = refl; witnessing = refl; no_fault = refl; asks = refl; subscriptions = refl; unrefused = λ fault. refl }; unput = λ after. refl; unfinished = λ xs. refl; uncovered = refl; no_syncs = λ n'. refl }; sends = refl; found = refl; answers = λ lowest. refl }
-    query_is get_processed is = record { idle = record { rest = record { effect = refl; undrained = refl; processed = refl; cutoff = refl; storing = refl; position = refl; syncs = refl; witnessing = refl; no_fault = refl; asks = refl; subscriptions = refl; unrefused = λ fault. refl }; unput = λ after. refl; unfinished = λ xs. refl; uncovered = refl; no_syncs = λ n'. refl }; sends = refl; found = refl; answers = λ lowest. refl }
-    query_is get_anchor is = record { idle = record { rest = record { effect = refl; undrained = refl; processed = refl; cutoff = refl; storing = refl; position = refl; syncs = refl; witnessing = refl; no_fault = refl; asks = refl; subscriptions = refl; unrefused = λ fault. refl }; unput = λ after. refl; unfinished = λ xs. refl; uncovered = refl; no_syncs = λ n'. refl }; sends = refl; found = refl; answers = λ lowest. refl }
-    query_is (get_verified r) is = record { idle = record { rest = record { effect = refl; undrained = refl; processed = refl; cutoff = refl; storing = refl; position = refl; syncs = refl; witnessing = refl; no_fault = refl; asks = refl; subscriptions = refl; unrefused = λ fault. refl }; unput = λ after. refl; unfinished = λ xs. refl; uncovered = refl; no_syncs = λ n'. refl }; sends = refl; found = ap (λ b. Some (bytes_of b)) (verified_first r a.held.cache.kept.held); answers = λ lowest. refl }
+    query_is (get_info id) is = record { idle = record { rest = record { effect = refl; undrained = refl; processed = refl; cutoff = refl; storing = refl; position = refl; syncs = refl; witnessing = refl; no_fault = refl; asks = refl; subscriptions = refl; unrefused = λ fault. refl; once = refl; no_pass = λ n'. refl }; unput = λ after. refl; unfinished = λ xs. refl; uncovered = refl; no_syncs = λ n'. refl }; sends = refl; found = refl; answers = λ lowest. refl }
+    query_is (get_block id) is = record { idle = record { rest = record { effect = refl; undrained = refl; processed = refl; cutoff = refl; storing = refl; position = refl; syncs = refl; witnessing = refl; no_fault = refl; asks = refl; subscriptions = refl; unrefused = λ fault. refl; once = refl; no_pass = λ n'. refl }; unput = λ after. refl; unfinished = λ xs. refl; uncovered = refl; no_syncs = λ n'. refl }; sends = refl; found = ap (λ b. Some (bytes_of b)) (block_found-is id); answers = λ lowest. refl }
+    query_is (get_finalization h) is = record { idle = record { rest = record { effect = refl; undrained = refl; processed = refl; cutoff = refl; storing = refl; position = refl; syncs = refl; witnessing = refl; no_fault = refl; asks = refl; subscriptions = refl; unrefused = λ fault. refl; once = refl; no_pass = λ n'. refl }; unput = λ after. refl; unfinished = λ xs. refl; uncovered = refl; no_syncs = λ n'. refl }; sends = refl; found = refl; answers = λ lowest. refl }
+    query_is get_processed is = record { idle = record { rest = record { effect = refl; undrained = refl; processed = refl; cutoff = refl; storing = refl; position = refl; syncs = refl; witnessing = refl; no_fault = refl; asks = refl; subscriptions = refl; unrefused = λ fault. refl; once = refl; no_pass = λ n'. refl }; unput = λ after. refl; unfinished = λ xs. refl; uncovered = refl; no_syncs = λ n'. refl }; sends = refl; found = refl; answers = λ lowest. refl }
+    query_is get_anchor is = record { idle = record { rest = record { effect = refl; undrained = refl; processed = refl; cutoff = refl; storing = refl; position = refl; syncs = refl; witnessing = refl; no_fault = refl; asks = refl; subscriptions = refl; unrefused = λ fault. refl; once = refl; no_pass = λ n'. refl }; unput = λ after. refl; unfinished = λ xs. refl; uncovered = refl; no_syncs = λ n'. refl }; sends = refl; found = refl; answers = λ lowest. refl }
+    query_is (get_verified r) is = record { idle = record { rest = record { effect = refl; undrained = refl; processed = refl; cutoff = refl; storing = refl; position = refl; syncs = refl; witnessing = refl; no_fault = refl; asks = refl; subscriptions = refl; unrefused = λ fault. refl; once = refl; no_pass = λ n'. refl }; unput = λ after. refl; unfinished = λ xs. refl; uncovered = refl; no_syncs = λ n'. refl }; sends = refl; found = ap (λ b. Some (bytes_of b)) (verified_first r a.held.cache.kept.held); answers = λ lowest. refl }
     query_is (report_finalization f) is = absurd cc
     query_is (report_notarization f) is = absurd cc
     query_is (report_certification f) is = absurd cc

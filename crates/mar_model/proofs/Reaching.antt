@@ -1,5 +1,5 @@
 -- An event in two parts: what it does first, and then the blocks that it hands over.
-use Rattle.std.proofs.Common.{◌≡◌, ◌⊎◌, inl, inr, ⊎_elim, ℕ, zero, suc, ◌+◌, ◌-◌, ◌<◌, ◌≤◌, ◌^◌, List, [], ◌∷◌, ◌++◌, length, map, true, false, Option, Some, None, option_to_list, IfSome, IsTrue, Contains, slice_get, ◌==◌, refl, sym, ◌∙◌, ap, subst, arith, length-append}
+use Rattle.std.proofs.Common.{◌≡◌, ◌⊎◌, inl, inr, ⊎_elim, ℕ, zero, suc, ◌+◌, ◌-◌, ◌<◌, ◌≤◌, ◌^◌, List, [], ◌∷◌, ◌++◌, length, map, true, false, Option, Some, None, option_to_list, IfSome, IsFalse, IsTrue, Contains, slice_get, ◌==◌, refl, sym, ◌∙◌, ap, subst, arith, length-append}
 use Rattle.std.specs.Bool.{⊤}
 use Rattle.std.specs.List.{AllByRecursion, filter_map, list_any}
 use Rattle.std.proofs.lemmas.List.Elements.{Contains-append_cases, Contains-append_left}
@@ -8,8 +8,8 @@ use Rattle.mar_cert.specs.Finalization.{Finalization}
 use Rattle.mar_gate.specs.Writing.{total_writes}
 use Rattle.mar_store.specs.Kept.{At, has_height, value_at}
 use Rattle.mar_store.specs.Changes.{KeepsValues}
-use Rattle.mar_store.proofs.Lookups.{AllByRecursion-append, AllByRecursion-value_at}
-use Rattle.mar_key.specs.Keys.{Call}
+use Rattle.mar_store.proofs.Lookups.{AllByRecursion-append, AllByRecursion-value_at, AllByRecursion-weaker}
+use Rattle.mar_key.specs.Keys.{Call, block_key, fetch, finalized_key, notarized_key, retain}
 use Rattle.mar_key.specs.Processed.{first_unprocessed}
 use Rattle.mar_model.specs.Answers.{answers_of, certified_after, is_known, sends_of, subscriptions_after}
 use Rattle.mar_model.specs.Cache.{started_syncs}
@@ -22,15 +22,15 @@ use Rattle.mar_model.specs.Held.{Seen}
 use Rattle.mar_model.specs.Moves.{AreNextHeld, HasRoom, IsBelowWrites, IsStarted, IsStill, handed_report, next_in, with_handed}
 use Rattle.mar_model.specs.Node.{AreBlocksOf, AreFinalizationsOf, AreHonest, CertifiedCommitment, IsGood, Node, Rest, block_missing, empty_inbox, empty_peers, window_full, write_count, write_uncovered}
 use Rattle.mar_model.specs.Promise.{IsKnownSince, ReportsFinalized, Waiting, asked_since, knowing, made_of, node_of}
-use Rattle.mar_model.specs.Requests.{own_asks}
-use Rattle.mar_model.specs.Step.{AdvancesBy, AreHandedOf, AreTipsOf, CertificatesFrom, EntersAt, HandedBlock, HandedFrom, HandsOver, IsBlockFrom, IsCertFrom, IsStored, IsStoredLate, KeepsFrom, Report, Steps, TipsFrom, Writes, handed_blocks, handed_over, new_tip, outstanding_of, own_heights}
+use Rattle.mar_model.specs.Requests.{IsRepairFetch, Repaired, is_pass, may_repair, own_asks, repairs_twice}
+use Rattle.mar_model.specs.Step.{AdvancesBy, AreHandedOf, AreTipsOf, CertificatesFrom, EntersAt, HandedBlock, HandedFrom, HandsOver, IsBlockFrom, IsCertFrom, IsStored, IsStoredLate, KeepsFrom, RepairsFromHand, Report, Steps, TipsFrom, Writes, handed_blocks, is_blocking, handed_over, new_tip, outstanding_of, own_heights}
 use Rattle.mar_model.proofs.CacheBeside.{AdvancesCache-beside}
 use Rattle.mar_model.proofs.CacheOver.{MovesCache}
 use Rattle.mar_model.proofs.Growing.{Grown}
 use Rattle.mar_model.proofs.Handing.{AreHandedOf-held, HandedFrom-held, handed_blocks-is, height_after-consecutive, sure_below}
-use Rattle.mar_model.proofs.HonestAsks.{AreHonest-asked_after, own_asks-honest}
+use Rattle.mar_model.proofs.HonestAsks.{AreHonest-asked_after, HonestCall, own_asks-honest}
 use Rattle.mar_model.proofs.OutstandingLemmas.{ConsecutiveFrom-append, ConsecutiveFrom-handed}
-use Rattle.mar_model.proofs.SyncTickets.{with_sync-unwritten, with_sync-written}
+use Rattle.mar_model.proofs.SyncTickets.{IsTicketed, with_sync-covered, with_sync-unwritten, with_sync-written}
 use Rattle.mar_model.proofs.StillGood.{Rest-with, IsGood-with}
 
 -- REPORTS
@@ -163,8 +163,8 @@ pub record Reaches {P E : Type 0} (config : Config) (chain : Chain) (a : Seen P 
   pub certs_grown : Grown a.held.certs put_certs m.held.certs
   pub of_blocks : AreBlocksOf chain put_blocks
   pub of_certs : AreFinalizationsOf chain put_certs
-  pub own_blocks : (x : At Block) → Contains put_blocks x → brought_block (node_of a buffer waiting) e ≡ Some x.value
-  pub own_certs : (x : At Finalization) → Contains put_certs x → told_finalization (node_of a buffer waiting) e ≡ Some x.value
+  pub own_blocks : (x : At Block) → Contains put_blocks x → IsBlockFrom (node_of a buffer waiting) e x
+  pub own_certs : (x : At Finalization) → Contains put_certs x → IsCertFrom (node_of a buffer waiting) e x
   pub certificates : CertificatesFrom (node_of a buffer waiting) e (node_of m buffer waiting)
   pub writes : Writes (node_of a buffer waiting) e no_floor (node_of m buffer waiting)
   pub no_repair : writes.repaired ≡ []
@@ -183,19 +183,116 @@ pub record Reaches {P E : Type 0} (config : Config) (chain : Chain) (a : Seen P 
   pub subscriptions : subscriptions_after (node_of a buffer waiting) e no_floor ≡ []
   pub no_syncs : (n' : Node) → started_syncs (node_of a buffer waiting) n' e ≡ []
 
+-- The same of an event that may repair, with what it asked for beyond its own asks.
+pub record ReachesBy {P E : Type 0} (config : Config) (chain : Chain) (a : Seen P E) (e : Event) (buffer : List Block) (waiting : Waiting) (tips : List Report) (more : List Call) (m : Seen P E) : Type 0 where
+  pub no_effect : effect_of config (node_of a buffer waiting) e ≡ no_floor
+  pub kept : m.life.out ≡ undrained_blocks (node_of a buffer waiting) e
+  pub next_ack : m.life.next_ack ≡ a.life.next_ack
+  pub next_sync : m.held.writes.next_sync ≡ a.held.writes.next_sync
+  pub sizes : m.life.sizes ≡ a.life.sizes
+  pub processed : m.held.processed ≡ acked_to a.held.processed (drained_blocks (node_of a buffer waiting) e)
+  pub cutoff : m.held.cutoff ≡ cutoff_after config (node_of a buffer waiting) e no_floor
+  pub blocks : KeepsFrom (blocks_from (node_of a buffer waiting) e no_floor) a.held.blocks m.held.blocks
+  pub certs : KeepsFrom (certs_from (node_of a buffer waiting) e no_floor) a.held.certs m.held.certs
+  pub put_blocks : List (At Block)
+  pub put_certs : List (At Finalization)
+  pub blocks_grown : Grown a.held.blocks put_blocks m.held.blocks
+  pub certs_grown : Grown a.held.certs put_certs m.held.certs
+  pub of_blocks : AreBlocksOf chain put_blocks
+  pub of_certs : AreFinalizationsOf chain put_certs
+  pub own_blocks : (x : At Block) → Contains put_blocks x → IsBlockFrom (node_of a buffer waiting) e x
+  pub own_certs : (x : At Finalization) → Contains put_certs x → IsCertFrom (node_of a buffer waiting) e x
+  pub certificates : CertificatesFrom (node_of a buffer waiting) e (node_of m buffer waiting)
+  pub writes : Writes (node_of a buffer waiting) e no_floor (node_of m buffer waiting)
+  pub repairs : RepairsFromHand config (node_of a buffer waiting) e no_floor writes.repaired (node_of m buffer waiting)
+  pub unrepaired : (n' : Node) → IsFalse (is_pass (node_of a buffer waiting) e no_floor n') → writes.repaired ≡ []
+  pub unblocked : (n' : Node) → IsFalse (is_blocking (node_of a buffer waiting) e no_floor n') → writes.blocking ≡ 0
+  pub enters : EntersAt (own_heights (node_of a buffer waiting) e no_floor ++ writes.repaired) (node_of a buffer waiting) (node_of m buffer waiting)
+  pub once : repairs_twice e no_floor ≡ false
+  pub idle : (n' : Node) → IsFalse (is_pass (node_of a buffer waiting) e no_floor n') → more ≡ []
+  pub repaired : (n' : Node) → IsTrue (is_pass (node_of a buffer waiting) e no_floor n') → Repaired config (node_of m buffer waiting) more
+  pub fetches : (more ≡ []) ⊎ (IsTrue (may_repair e) × AllByRecursion (IsRepairFetch chain) more)
+  pub are_tips : AreTips tips
+  pub tips_rise : TipsFrom a.life.tip tips m.life.tip
+  pub tips_chain : AreTipsOf chain tips
+  pub cache : MovesCache config chain a m e buffer waiting
+  pub stored : IfSome (storing_of (node_of a buffer waiting) e) (IsStored (node_of m buffer waiting))
+  pub stored_late : IfSome (storing_of (node_of a buffer waiting) e) (IsStoredLate (node_of a buffer waiting) no_floor (node_of m buffer waiting))
+  pub no_query : is_query e ≡ false
+  pub no_fault : event_fault config (node_of a buffer waiting) e ≡ None
+  pub sends : sends_of (node_of a buffer waiting) e ≡ []
+  pub answers : (lowest : ℕ) → answers_of config (node_of a buffer waiting) lowest e no_floor ≡ []
+  pub subscriptions : subscriptions_after (node_of a buffer waiting) e no_floor ≡ []
+  pub no_syncs : (n' : Node) → started_syncs (node_of a buffer waiting) n' e ≡ []
+
+-- an event without a pass asks for no more
+none_repaired : (repaired : List ℕ) (h : ℕ) → repaired ≡ [] → IsTrue (list_any (λ k. k == h) repaired) → ⊥
+none_repaired repaired h none any = let no : false ≡ true = subst (λ xs. IsTrue (list_any (λ k. k == h) xs)) none any in cc
+
+pub unpassed : {P E : Type 0} (config : Config) (chain : Chain) (a : Seen P E) (e : Event) (buffer : List Block) (waiting : Waiting) (tips : List Report) (m : Seen P E) → ((n' : Node) → is_pass (node_of a buffer waiting) e no_floor n' ≡ false) → repairs_twice e no_floor ≡ false
+    → Reaches config chain a e buffer waiting tips m → ReachesBy config chain a e buffer waiting tips [] m
+unpassed config chain a e buffer waiting tips m no_pass once reach = record {
+  no_effect = reach.no_effect;
+  kept = reach.kept;
+  next_ack = reach.next_ack;
+  next_sync = reach.next_sync;
+  sizes = reach.sizes;
+  processed = reach.processed;
+  cutoff = reach.cutoff;
+  blocks = reach.blocks;
+  certs = reach.certs;
+  put_blocks = reach.put_blocks;
+  put_certs = reach.put_certs;
+  blocks_grown = reach.blocks_grown;
+  certs_grown = reach.certs_grown;
+  of_blocks = reach.of_blocks;
+  of_certs = reach.of_certs;
+  own_blocks = reach.own_blocks;
+  own_certs = reach.own_certs;
+  certificates = reach.certificates;
+  writes = reach.writes;
+  repairs = record { at_hand = λ h b any is. absurd (none_repaired reach.writes.repaired h reach.no_repair any); with_finalization = λ h b any is some. absurd (none_repaired reach.writes.repaired h reach.no_repair any) };
+  unrepaired = λ n' is. reach.no_repair;
+  unblocked = λ n' is. reach.unblocked;
+  enters = record {
+    blocks = λ h has. ⊎_elim (λ there. inl there) (λ own. inr (Contains-append_left (own_heights (node_of a buffer waiting) e no_floor) reach.writes.repaired h own)) (reach.enters.blocks h has);
+    certs = λ h has. ⊎_elim (λ there. inl there) (λ own. inr (Contains-append_left (own_heights (node_of a buffer waiting) e no_floor) reach.writes.repaired h own)) (reach.enters.certs h has);
+  };
+  once = once;
+  idle = λ n' is. refl;
+  repaired = λ n' pass. absurd (let no : false ≡ true = sym (no_pass n') ∙ pass in cc);
+  fetches = inl refl;
+  are_tips = reach.are_tips;
+  tips_rise = reach.tips_rise;
+  tips_chain = reach.tips_chain;
+  cache = reach.cache;
+  stored = reach.stored;
+  stored_late = reach.stored_late;
+  no_query = reach.no_query;
+  no_fault = reach.no_fault;
+  sends = reach.sends;
+  answers = reach.answers;
+  subscriptions = reach.subscriptions;
+  no_syncs = reach.no_syncs;
+}
+
 -- BOTH PARTS
 
 pub some_first : {T : Type 0} (o : Option T) (others : List T) (x : T) → o ≡ Some x → Contains (option_to_list o ++ others) x
 some_first o others x is = subst (λ p. Contains (option_to_list p ++ others) x) (sym is) (zero, omega arith, refl)
 
--- what was put is the event's
-pub block_from : (n : Node) (e : Event) (may put : List (At Block)) → ((x : At Block) → Contains put x → brought_block n e ≡ Some x.value) → (x : At Block) → Contains (may ++ put) x → Contains may x ⊎ IsBlockFrom n e x
-block_from n e may put own x has = ⊎_elim (λ before. inl before) (λ new. inr (some_first (brought_block n e) (n.buffer ++ filter_map cached_block n.cache.held) x.value (own x new))) (Contains-append_cases may put x has)
+-- what an event brings and tells is from it
+pub brought_from : (n : Node) (e : Event) (x : At Block) → brought_block n e ≡ Some x.value → IsBlockFrom n e x
+brought_from n e x is = some_first (brought_block n e) (n.buffer ++ filter_map cached_block n.cache.held) x.value is
 
-pub cert_from : (n : Node) (e : Event) (may put : List (At Finalization)) → ((x : At Finalization) → Contains put x → told_finalization n e ≡ Some x.value) → (x : At Finalization) → Contains (may ++ put) x → Contains may x ⊎ IsCertFrom n e x
-cert_from n e may put own x has = ⊎_elim (λ before. inl before) (λ new. inr (some_first (told_finalization n e) (filter_map cached_finalization n.cache.held) x.value (own x new))) (Contains-append_cases may put x has)
+pub told_from : (n : Node) (e : Event) (x : At Finalization) → told_finalization n e ≡ Some x.value → IsCertFrom n e x
+told_from n e x is = some_first (told_finalization n e) (filter_map cached_finalization n.cache.held) x.value is
 
-IfSome-more : {T : Type 0} (P Q : T → Type 0) → ((x : T) → P x → Q x) → (o : Option T) → IfSome o P → IfSome o Q
+-- what was put is from the event
+pub put_from : {T : Type 0} (From : T → Type 0) (may put : List T) → ((x : T) → Contains put x → From x) → (x : T) → Contains (may ++ put) x → Contains may x ⊎ From x
+put_from From may put own x has = ⊎_elim (λ before. inl before) (λ new. inr (own x new)) (Contains-append_cases may put x has)
+
+pub IfSome-more : {T : Type 0} (P Q : T → Type 0) → ((x : T) → P x → Q x) → (o : Option T) → IfSome o P → IfSome o Q
 IfSome-more P Q more None is = tt
 IfSome-more P Q more (Some x) is = more x is
 
@@ -229,8 +326,8 @@ HandsSure-next config chain m buffer waiting handed good sure_is_held next below
     sure : (h : ℕ) → AllByRecursion (λ k. h < k) m.held.writes.uncovered → IsTrue (has_height m.held.blocks.held h) → IsTrue (has_height m.held.blocks.sure h)
     sure h low has = sure_below m.held.blocks m.held.writes.uncovered h good.heights.stores.sure_blocks low has
 
-module _ {P E : Type 0} (config : Config) (chain : Chain) (a m : Seen P E) (e : Event) (buffer : List Block) (waiting : Waiting) (tips : List Report) (handed : List HandedBlock)
-    (reported : ReportsFinalized chain e) (honest : AreHonest chain waiting.requests) (reach : Reaches config chain a e buffer waiting tips m) (hands_sure : HandsSure chain m handed) (certified : List CertifiedCommitment) (known : IsKnownSince config (node_of a buffer waiting) e m.life.tip certified)
+module _ {P E : Type 0} (config : Config) (chain : Chain) (a m : Seen P E) (e : Event) (buffer : List Block) (waiting : Waiting) (tips : List Report) (more : List Call) (handed : List HandedBlock)
+    (reported : ReportsFinalized chain e) (honest : AreHonest chain waiting.requests) (reach : ReachesBy config chain a e buffer waiting tips more m) (hands_sure : HandsSure chain m handed) (certified : List CertifiedCommitment) (known : IsKnownSince config (node_of a buffer waiting) e m.life.tip certified)
   where
     abbrev pub n : Node
     n = node_of a buffer waiting
@@ -239,7 +336,7 @@ module _ {P E : Type 0} (config : Config) (chain : Chain) (a m : Seen P E) (e : 
     reports = tips ++ map handed_report handed
 
     abbrev pub asks : List Call
-    asks = own_asks config n e no_floor
+    asks = own_asks config n e no_floor ++ more
 
     abbrev pub after : Waiting
     after = knowing certified (asked_since waiting asks)
@@ -266,8 +363,9 @@ module _ {P E : Type 0} (config : Config) (chain : Chain) (a m : Seen P E) (e : 
     hands_chain : AreHandedOf chain m.held.blocks.sure (handed_blocks reports)
     hands_chain = subst (AreHandedOf chain m.held.blocks.sure) (sym blocks_are) hands_sure.of_chain
 
-    none_repaired : (h : ℕ) → IsTrue (list_any (λ k. k == h) reach.writes.repaired) → ⊥
-    none_repaired h any = let none : false ≡ true = subst (λ xs. IsTrue (list_any (λ k. k == h) xs)) reach.no_repair any in cc
+    -- what is handed over and who waits is no matter for repair
+    again : Repaired config (node_of m buffer waiting) more → Repaired config n' more
+    again law = record { heights = law.heights; at_most = law.at_most; only = law.only; parent = law.parent; newest_block = law.newest_block }
 
     untouched : n' ≡ record n' { buffer = n.buffer; buffer_closed = n.buffer_closed; unanswered = n.unanswered; peers = n.peers; inbox = n.inbox; next_answer = n.next_answer }
     untouched = ap (λ (k : ℕ). record n' { peers = empty_peers k; inbox = empty_inbox k }) (ap (λ s. s.capacity) reach.sizes)
@@ -280,8 +378,8 @@ module _ {P E : Type 0} (config : Config) (chain : Chain) (a m : Seen P E) (e : 
       cutoff = reach.cutoff;
       blocks = reach.blocks;
       certs = reach.certs;
-      may_blocks = λ x has. block_from n e a.held.blocks.may reach.put_blocks reach.own_blocks x (reach.blocks_grown.leaves.may x has);
-      may_certs = λ x has. cert_from n e a.held.certs.may reach.put_certs reach.own_certs x (reach.certs_grown.leaves.may x has);
+      may_blocks = λ x has. put_from (IsBlockFrom n e) a.held.blocks.may reach.put_blocks reach.own_blocks x (reach.blocks_grown.leaves.may x has);
+      may_certs = λ x has. put_from (IsCertFrom n e) a.held.certs.may reach.put_certs reach.own_certs x (reach.certs_grown.leaves.may x has);
       certificates = record { entered = reach.certificates.entered; own = reach.certificates.own };
       writes = record {
         repaired = reach.writes.repaired;
@@ -294,10 +392,10 @@ module _ {P E : Type 0} (config : Config) (chain : Chain) (a m : Seen P E) (e : 
         uncovered = reach.writes.uncovered;
         syncs = reach.writes.syncs;
       };
-      repairs = record { at_hand = λ h b any is. absurd (none_repaired h any); with_finalization = λ h b any is some. absurd (none_repaired h any) };
-      unrepaired = λ is. reach.no_repair;
-      unblocked = λ is. reach.unblocked;
-      enters = record { blocks = λ h has. ⊎_elim (λ there. inl there) (λ own. inr (Contains-append_left (own_heights n e no_floor) reach.writes.repaired h own)) (reach.enters.blocks h has); certs = λ h has. ⊎_elim (λ there. inl there) (λ own. inr (Contains-append_left (own_heights n e no_floor) reach.writes.repaired h own)) (reach.enters.certs h has) };
+      repairs = record { at_hand = reach.repairs.at_hand; with_finalization = reach.repairs.with_finalization };
+      unrepaired = reach.unrepaired n';
+      unblocked = reach.unblocked n';
+      enters = record { blocks = reach.enters.blocks; certs = reach.enters.certs };
       tips = tips_before_handed a.life.tip m.life.tip tips handed reach.are_tips reach.tips_rise;
       tips_chain = tips_of_both chain tips handed reach.are_tips reach.tips_chain;
       awaited = refl;
@@ -309,7 +407,17 @@ module _ {P E : Type 0} (config : Config) (chain : Chain) (a m : Seen P E) (e : 
       query = λ is. absurd (let none : false ≡ true = sym reach.no_query ∙ is in cc);
       no_fault = reach.no_fault;
       beside = record {
+        more = more;
         asks = refl;
+        passes = record {
+          first = [];
+          second = more;
+          split = refl;
+          idle = λ is. ⊎_elim (λ not_pass. reach.idle n' not_pass) (λ some. absurd cc) is;
+          once = λ is. refl;
+          repaired_first = λ twice none. absurd (let no : false ≡ true = sym reach.once ∙ twice in cc);
+          repaired = λ pass none. again (reach.repaired n' pass);
+        };
         sends = sym reach.sends;
         answers = sym (reach.answers m.held.lowest);
         subscriptions = sym reach.subscriptions;
@@ -319,16 +427,26 @@ module _ {P E : Type 0} (config : Config) (chain : Chain) (a m : Seen P E) (e : 
       };
     }
 
+    fetch_honest : (c : Call) → IsRepairFetch chain c → HonestCall chain c
+    fetch_honest (fetch (finalized_key h) annotation targets) is = tt
+    fetch_honest (fetch (block_key k) annotation targets) (none, h, at, named) = λ some. (h, named)
+    fetch_honest (fetch (notarized_key r) annotation targets) is = absurd is
+    fetch_honest (retain keep) is = absurd is
+
+    more_honest : (more ≡ []) ⊎ (IsTrue (may_repair e) × AllByRecursion (IsRepairFetch chain) more) → AllByRecursion (HonestCall chain) more
+    more_honest (inl none) = subst (AllByRecursion (HonestCall chain)) (sym none) tt
+    more_honest (inr (may, fetches)) = AllByRecursion-weaker (IsRepairFetch chain) (HonestCall chain) fetch_honest more fetches
+
     -- The node that a step leaves: this one, or with a ticket.
     honest_after : AreHonest chain after.requests
-    honest_after = AreHonest-asked_after chain waiting.requests [] asks (own_asks-honest config chain n e no_floor reported tt) honest
+    honest_after = AreHonest-asked_after chain waiting.requests [] asks (AllByRecursion-append (HonestCall chain) (own_asks config n e no_floor) more (own_asks-honest config chain n e no_floor reported tt) (more_honest reach.fetches)) honest
 
-    -- an event that reached some node, and handed over from there until it rests, is a step where it wrote nothing
-    pub Steps-reached : total_writes m.held.writes ≤ total_writes a.held.writes → IsGood config chain (node_of (with_handed m handed) buffer waiting) → Rest config.window (node_of (with_handed m handed) buffer waiting) → Steps config chain n (e ∷ []) (made_of reports asks) n'
-    Steps-reached unwritten good rests = record {
+    -- an event that reached some node, and handed over from there until it rests, is a step where it opens no ticket
+    pub Steps-reached : IsTicketed a.held.writes m.held.writes → IsGood config chain (node_of (with_handed m handed) buffer waiting) → Rest config.window (node_of (with_handed m handed) buffer waiting) → Steps config chain n (e ∷ []) (made_of reports asks) n'
+    Steps-reached ticketed good rests = record {
       unticketed = n';
       advances = subst (λ fx. AdvancesBy config chain n e fx (made_of reports asks) n') (sym reach.no_effect) advances_unfloored;
-      ticket = sym (with_sync-unwritten (write_count n) n' unwritten);
+      ticket = sym (⊎_elim (λ unwritten. with_sync-unwritten (write_count n) n' unwritten) (λ covered. with_sync-covered (write_count n) n' covered) ticketed);
       rests = Rest-beside config.window (with_handed m handed) buffer buffer waiting after rests;
       good = IsGood-beside config chain (with_handed m handed) buffer buffer waiting after honest_after good;
     }

@@ -72,11 +72,11 @@ pub Reached-more : (inner : List ℕ → List ℕ) (start : Scene) (whole : List
 Reached-more inner start whole k rest old new reached did = record { runs = λ t runs. reached.runs t (old, new, Reads-refl old, did, runs); breaks = λ e heard breaks. reached.breaks e heard (inr (old, Reads-refl old, inr (new, did, breaks))) }
 
 -- or failed
-pub Breaks-now : (inner : List ℕ → List ℕ) (start : Scene) (whole : List Task) (k : Task) (rest : List Task) (old : Scene) (e : Ending) (heard : Heard) → Reached inner start whole (k ∷ rest) old → FailsTask k old e heard → Breaks inner start whole e heard
+pub Breaks-now : (inner : List ℕ → List ℕ) (start : Scene) (whole : List Task) (k : Task) (rest : List Task) (old : Scene) (e : Ending) (heard : Heard) → Reached inner start whole (k ∷ rest) old → FailsTask inner k old e heard → Breaks inner start whole e heard
 Breaks-now inner start whole k rest old e heard reached fails = reached.breaks _ _ (inr (old, Reads-refl old, inl fails))
 
 -- what does one task does a plan of one
-pub Does-task : {T C : Type 0} (inner : List ℕ → List ℕ) (fault : C → Fault) (k : Task) (old new : Scene) (result : Result T C) → OnOk result (DoesTask inner k old new) → IfErr result (λ c. FailsTask k old (ended_on (fault c) new.held) new.heard) → Does inner fault (k ∷ []) old new result
+pub Does-task : {T C : Type 0} (inner : List ℕ → List ℕ) (fault : C → Fault) (k : Task) (old new : Scene) (result : Result T C) → OnOk result (DoesTask inner k old new) → IfErr result (λ c. FailsTask inner k old (ended_on (fault c) new.held) new.heard) → Does inner fault (k ∷ []) old new result
 Does-task inner fault k old new (Ok x) did fails = λ start whole rest reached. Reached-more inner start whole k rest old new reached did
 Does-task inner fault k old new (Err c) did fails = λ start whole rest reached. Breaks-now inner start whole k rest old _ _ reached fails
 

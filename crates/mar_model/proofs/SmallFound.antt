@@ -16,7 +16,7 @@ small_held kept lowest loaded nested small x has = small x (nested.held_may x ha
 is_it : (x y : Cached) → ◌≡◌ {A = Option Cached} (Some x) (Some y) → x ≡ y
 is_it x y is = cc
 
-soonest_held : (p : Cached → Bool) (xs : List Cached) (x : Cached) → soonest p xs ≡ Some x → Contains xs x
+pub soonest_held : (p : Cached → Bool) (xs : List Cached) (x : Cached) → soonest p xs ≡ Some x → Contains xs x
 soonest_held p [] x is = absurd cc
 soonest_held p (y ∷ ys) x is = by (p y) (soonest p ys) (soonest_held p ys x) is
   where

@@ -1,13 +1,11 @@
 -- The start of a life: the newest stored finalization is told as the tip, what a crash left of the cache is taken up, and then
 -- blocks are handed over.
-use Rattle.std.proofs.Common.{ℕ, ◌≡◌, inl, inr, ⊎_elim, arith, List, [], ◌∷◌, ◌++◌, None, Option, Contains, Result, Ok, Err, MatchResult, refl, sym, ◌∙◌, ap, subst, ◌≤◌}
+use Rattle.std.proofs.Common.{ℕ, ◌≡◌, inl, ⊎_elim, List, [], ◌∷◌, ◌++◌, None, Option, Contains, Err, refl, sym, subst}
 use Rattle.std.specs.List.{filter_map}
-use Rattle.std.specs.Prelude.{false}
 use Rattle.std.proofs.lemmas.List.Elements.{Contains-append_cases, Contains-append_left, Contains-append_right}
 use Rattle.mar_types.specs.Epochs.{Epochs, IsPartition}
 use Rattle.mar_cert.specs.Block.{Block}
-use Rattle.mar_gate.specs.Writing.{total_writes}
-use Rattle.mar_store.specs.Changes.{IsNested, KeepsValues}
+use Rattle.mar_store.specs.Changes.{IsNested}
 use Rattle.mar_store.proofs.Lookups.{AllByRecursion-contains, AllByRecursion-from_contains}
 use Rattle.mar_key.specs.Hears.{Hears}
 use Rattle.mar_key.specs.Keys.{Call}
@@ -16,33 +14,25 @@ use Rattle.mar_model.specs.Cached.{Cached, cached_block, cached_finalization}
 use Rattle.mar_model.specs.Chain.{Chain}
 use Rattle.mar_model.specs.Config.{Config}
 use Rattle.mar_model.specs.Event.{life_started}
-use Rattle.mar_model.specs.Held.{AreCached, Ending, HeldCache, IsUsual, Loses, Seen, nothing_written}
-use Rattle.mar_model.specs.Lives.{ArePicked, TakesUp}
-use Rattle.mar_model.specs.Moves.{IsRead, LoadsCache, newest_tip, newest_tips, with_newest, with_watches}
+use Rattle.mar_model.specs.Held.{Ending, HeldCache, IsUsual, Loses, Seen, nothing_written}
+use Rattle.mar_model.specs.Moves.{IsRead, newest_tip, newest_tips, with_newest, with_watches}
 use Rattle.mar_model.specs.Stored.{newest}
-use Rattle.mar_model.specs.Node.{Agrees, IsFinalized, IsGood}
-use Rattle.mar_model.specs.Promise.{AreOne, CutsStart, FinishesStart, IsGoodUntold, IsLawfulStep, KeepsPromise, StepsOrCuts, Waiting, heard_by, known_blocks, node_of}
+use Rattle.mar_model.specs.Node.{Agrees, IsFinalized}
+use Rattle.mar_model.specs.Promise.{AreOne, IsGoodUntold, IsLawfulStep, KeepsPromise, Waiting, heard_by, known_blocks, node_of}
 use Rattle.mar_model.specs.Step.{AreTipsOf, Report}
-use Rattle.mar_model.specs.OpenSyncs.{AreStillOpen}
 use Rattle.mar_model.proofs.CacheOver.{moves_none, own_none}
 use Rattle.mar_model.proofs.Cutting.{usual_not_by_value, usual_not_dropped}
 use Rattle.mar_model.proofs.EventPromises.{quiet_cut, told_cut}
 use Rattle.mar_model.proofs.Filtered.{all_found_within}
 use Rattle.mar_model.proofs.KnownBlocks.{AreOne-within}
 use Rattle.mar_model.proofs.Growing.{Grown-same}
-use Rattle.mar_model.proofs.Handing.{Hears-nothing, HearsFront-nothing, Ran}
+use Rattle.mar_model.proofs.Handing.{Hears-nothing, HearsFront-nothing}
 use Rattle.mar_model.proofs.PlainEvents.{Certificates-same, EntersAt-same, KeepsFrom-same, Writes-same, nothing_put}
-use Rattle.mar_model.proofs.Promises.{dispatched}
 use Rattle.mar_model.proofs.Reaching.{Reaches}
-use Rattle.mar_model.proofs.Tips.{newest_tip-high, newest_tips-chain, newest_tips-rise, newest_tips-tips}
+use Rattle.mar_model.proofs.Tips.{newest_tips-chain, newest_tips-rise, newest_tips-tips}
 use Rattle.mar_model.proofs.StillGood.{IsGood-tipped}
 
 module _ {P E : Type 0} (config : Config) (chain : Chain) (a : Seen P E) (buffer : List Block) (waiting : Waiting) (nested : IsNested a.held.blocks) (certs_nested : IsNested a.held.certs) (untold : IsGoodUntold config chain (node_of a buffer waiting)) where
-  -- once its newest finalization is told, a node is good
-  pub IsGood-told : IsGood config chain (node_of (with_newest a) buffer waiting)
-  IsGood-told = IsGood-tipped config chain a a.held.cache a.held.writes.next_sync a.held.watches buffer buffer waiting waiting untold.0 (newest_tip a.life.tip (newest a.held.certs.held))
-      untold.1.of_chain.asks.requests untold.1.of_chain.cache (newest_tip-high a.life.tip a.held.certs.held) untold.1
-
   pub Reaches-start : (m : Seen P E) → a.held.lowests ≡ a.held.lowest ∷ [] → IsRead (with_newest a) m → AreOne config.inner (known_blocks chain (node_of a buffer waiting)) → Reaches config chain a (life_started None) buffer waiting (newest_tips config.inner a.life.tip (newest a.held.certs.held)) m
   Reaches-start m own_lowest same one = subst (Reaches config chain a (life_started None) buffer waiting (newest_tips config.inner a.life.tip (newest a.held.certs.held))) (sym same) (record {
     no_effect = refl;
@@ -141,36 +131,3 @@ module _ {P E : Type 0} (epochs : Epochs) (inner : List ℕ → List ℕ) (parti
         (subst (λ i. AreTipsOf chain (newest_tips i a.life.tip (newest a.held.certs.held))) set.inner_is (newest_tips-chain config.inner chain (buffer ++ filter_map cached_block (a.held.cache.kept.held ++ a.held.cache.kept.may)) step.one a.life.tip a.held.certs.held step.good.1.of_chain.stores.held_certs))
         told told' heard heard nothing_written x tips (HearsFront-nothing heard _ heard (Hears-nothing heard)) refl refl (own_none config chain (node_of a buffer waiting) (life_started None)) tt tt (λ y has. nothing_put y has) (λ y has. nothing_put y has) lost (λ p has. nothing_put p has) (usual_not_by_value x.fault usual) (usual_not_dropped x.fault usual);
   }
-
-  -- it was, and blocks were handed over
-  pub promise-start : (told told1 told' : Option (List Report)) (heard : Option (List Call)) (m n : Seen P E) (result : Result (Seen P E) Ending) → IsNested a.held.blocks → IsNested a.held.certs → AreCached a.held → IsRead (with_newest a) m → LoadsCache m n → Hears told (newest_tips inner a.life.tip (newest a.held.certs.held)) told1 → Ran n told1 told' result → KeepsPromise (life_started None ∷ []) epochs inner a buffer (heard_by told heard) (heard_by told' heard) result
-  promise-start told told1 told' heard m n result nested certs_nested cached same loads tips ran fresh config chain waiting set step = by result ran
-    where
-      cache_is : m.held.cache ≡ a.held.cache
-      cache_is = ap (λ s. s.held.cache) same
-
-      loaded : LoadsEntries a.held.cache.kept n.held.cache.kept
-      loaded = subst (λ c. LoadsEntries c.kept n.held.cache.kept) cache_is (loads.loads (ap (λ c. c.fresh) cache_is ∙ fresh))
-
-      picked : ArePicked a.held.cache.finds n.held.cache.kept.held
-      picked = subst (λ c. ArePicked c.finds n.held.cache.kept.held) cache_is (loads.by_luck (ap (λ c. c.fresh) cache_is ∙ fresh))
-
-      begun_same : IsRead (with_newest (with_cache a n.held.cache)) n
-      begun_same = loads.same ∙ ap (λ (s : Seen P E). record s { held = record s.held { cache = n.held.cache; watches = n.held.watches } }) same
-
-      takes : TakesUp a.held.cache.finds (node_of a buffer waiting) (node_of (with_cache a n.held.cache) buffer waiting)
-      takes = record { cache = n.held.cache.kept; loads = loaded; by_luck = picked; syncs = n.held.cache.syncs; still_open = subst (λ c. AreStillOpen (λ x. false) c.syncs n.held.cache.syncs) cache_is loads.still_open; begun_is = refl }
-
-      begun_step : IsLawfulStep config chain (node_of (with_cache a n.held.cache) buffer waiting) (life_started None ∷ [])
-      begun_step = IsLawfulStep-begun config chain a n.held.cache buffer waiting loaded step
-
-      steps_on : (r : Result (Seen P E) Ending) → Ran n told1 told' r → StepsOrCuts config chain (node_of (with_cache a n.held.cache) buffer waiting) (life_started None ∷ []) (heard_by told heard) (heard_by told' heard) r
-      steps_on r ran =
-          dispatched config chain (with_cache a n.held.cache) n (life_started None) buffer waiting (newest_tips config.inner a.life.tip (newest a.held.certs.held)) (set.window ∙ sym (ap (λ s. s.life.sizes.window) begun_same)) begun_step (λ fault. refl) (Reaches-start config chain (with_cache a n.held.cache) buffer waiting nested certs_nested begun_step.good n cached.own_lowest begun_same begun_step.one)
-          (subst (λ s. IsGood config chain (node_of s buffer waiting)) (sym begun_same) (IsGood-told config chain (with_cache a n.held.cache) buffer waiting nested certs_nested begun_step.good)) (let writes : total_writes n.held.writes ≡ total_writes a.held.writes = ap (λ s. total_writes s.held.writes) begun_same in omega arith)
-          (subst (λ s. KeepsValues s.held.blocks.sure s.held.blocks.held) (sym begun_same) nested.sure_held) told told1 told' heard heard r
-          (subst (λ i. Hears told (newest_tips i a.life.tip (newest a.held.certs.held)) told1) (sym set.inner_is) tips) ran (Hears-nothing heard)
-
-      by : (r : Result (Seen P E) Ending) → Ran n told1 told' r → MatchResult r (λ new. FinishesStart config chain a.held.cache.finds (node_of a buffer waiting) (life_started None ∷ []) (heard_by told heard) (heard_by told' heard) new.held new.life) (CutsStart config chain a.held.cache.finds (node_of a buffer waiting) (life_started None ∷ []) (heard_by told heard) (heard_by told' heard))
-      by (Ok new) ran = record { begun = node_of (with_cache a n.held.cache) buffer waiting; takes = takes; finishes = steps_on (Ok new) ran }
-      by (Err x) ran = record { begun = node_of (with_cache a n.held.cache) buffer waiting; takes = inr takes; cuts = steps_on (Err x) ran }

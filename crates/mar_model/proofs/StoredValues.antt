@@ -1,11 +1,10 @@
 -- What a put or a storing leaves of stored values, and what is found among them.
-use Rattle.std.proofs.Common.{◌≡◌, ◌⊎◌, inl, inr, ℕ, zero, List, [], ◌∷◌, ◌++◌, find, Bool, true, false, ◌&&◌, ◌||◌, not, ◌==◌, if◌then◌else◌, Some, None, is_some, IsTrue, Contains, refl, sym, ◌∙◌, ap, subst, arith}
+use Rattle.std.proofs.Common.{◌≡◌, ◌⊎◌, inl, inr, ℕ, zero, List, [], ◌∷◌, ◌++◌, find, Bool, true, false, ◌&&◌, ◌||◌, not, if◌then◌else◌, Some, is_some, IsTrue, Contains, refl, sym, subst, arith}
 use Rattle.std.specs.List.{AllByRecursion, list_any}
-use Rattle.std.specs.Option.{option_or}
 use Rattle.std.proofs.lemmas.List.Elements.{Contains-append_right}
 use Rattle.mar_store.specs.Kept.{At, Kept, has_height, value_at}
 use Rattle.mar_store.specs.Changes.{IsNested, KeepsValues, Puts}
-use Rattle.mar_store.proofs.Lookups.{AllByRecursion-push, AllByRecursion-within, has_height-push_cases, has_height-push_same, value_at-append, value_at-append_found}
+use Rattle.mar_store.proofs.Lookups.{AllByRecursion-push, AllByRecursion-within, has_height-push_cases, has_height-push_same, value_at-append_found}
 use Rattle.mar_model.specs.Stored.{values_of}
 use Rattle.mar_model.specs.Moves.{StoresValue, StoresWhere}
 use Rattle.mar_model.specs.Node.{SureOrWritten}
@@ -32,11 +31,6 @@ stored_height false old x new there put = subst (λ xs. IsTrue (has_height xs x.
 pub entered_height : {T : Type 0} (ignored : Bool) (old : List (At T)) (x : At T) (new : List (At T)) (h : ℕ) → PutIn ignored old x new → IsTrue (has_height new h) → IsTrue (has_height old h) ⊎ (x.height ≡ h)
 entered_height true old x new h put has = inl (subst (λ xs. IsTrue (has_height xs h)) put has)
 entered_height false old x new h put has = has_height-push_cases old x.height h x.value (subst (λ xs. IsTrue (has_height xs h)) put has)
-
--- what was missing at another height is missing
-pub missing_stays : {T : Type 0} (ignored : Bool) (old : List (At T)) (x : At T) (new : List (At T)) (h : ℕ) → PutIn ignored old x new → (x.height == h) ≡ false → value_at old h ≡ None → value_at new h ≡ None
-missing_stays true old x new h put other none = subst (λ xs. value_at xs h ≡ None) (sym put) none
-missing_stays false old x new h put other none = subst (λ xs. value_at xs h ≡ None) (sym put) (value_at-append old (x ∷ []) h ∙ (ap (λ o. option_or o (value_at (x ∷ []) h)) none ∙ ap (λ (c : Bool). if c then Some x.value else None) other))
 
 -- what holds of all that was held and of the put holds of all that is held
 pub all_held : {T : Type 0} (Q : At T → Type 0) (ignored : Bool) (old : List (At T)) (x : At T) (new : List (At T)) → PutIn ignored old x new → AllByRecursion Q old → Q x → AllByRecursion Q new

@@ -1,5 +1,5 @@
 -- A value is put and synced.
-use Rattle.std.proofs.Common.{◌≡◌, ℕ, Bool, Contains, sym, ◌∙◌, subst}
+use Rattle.std.proofs.Common.{Bool, Contains, sym, ◌∙◌, subst}
 use Rattle.mar_store.specs.Kept.{At, Kept}
 use Rattle.mar_store.specs.Changes.{Puts, Syncs}
 use Rattle.mar_model.specs.Moves.{StoresValue}

@@ -28,6 +28,17 @@ with_sync-written before n more some = ap (λ (b : Bool). if b then opened n els
     both : (nat_lt before (write_count n) && nat_lt 0 (length n.uncovered)) ≡ true
     both = grind (arith, nat_tests, more, some)
 
+-- none is opened where nothing waits for a sync
+pub with_sync-covered : (before : ℕ) (n : Node) → length n.uncovered ≡ 0 → with_sync before n ≡ n
+with_sync-covered before n none = ap (λ (b : Bool). if b then opened n else n) both
+  where
+    both : (nat_lt before (write_count n) && nat_lt 0 (length n.uncovered)) ≡ false
+    both = grind (arith, nat_tests, none)
+
+-- these writes leave no ticket to open
+abbrev pub IsTicketed : Writing → Writing → Type 0
+IsTicketed old new = (total_writes new ≤ total_writes old) ⊎ (length new.uncovered ≡ 0)
+
 -- POSITIONS
 
 -- no sync covers more writes than there were

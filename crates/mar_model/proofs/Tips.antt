@@ -14,7 +14,7 @@ use Rattle.mar_model.specs.Moves.{newest_tip, newest_tips, risen_to, tip_after, 
 use Rattle.mar_model.specs.Stored.{entry_at, newest}
 use Rattle.mar_model.specs.Node.{AreFinalizationsOf}
 use Rattle.mar_model.specs.Promise.{AreOne}
-use Rattle.mar_model.specs.Step.{AreTipsOf, TipsFrom, new_tip}
+use Rattle.mar_model.specs.Step.{AreTipsOf, Report, TipsFrom, handed_over, new_tip}
 use Rattle.mar_model.proofs.FoundBlocks.{Contains-slice_get}
 use Rattle.mar_model.proofs.Reaching.{AreTips}
 
@@ -156,3 +156,20 @@ newest_tips-chain inner chain buffer one tip certs finals = by (last_index certs
     by : (o : Option ℕ) → AreTipsOf chain (newest_tips inner tip (entry_at certs o))
     by None = tt
     by (Some h) = at h (value_at certs h) refl
+
+-- ONE ROW OF TIPS BEHIND ANOTHER
+
+pub both_tips : (xs ys : List Report) → AreTips xs → AreTips ys → AreTips (xs ++ ys)
+both_tips [] ys first second = second
+both_tips (new_tip r h d ∷ xs) ys first second = both_tips xs ys first second
+both_tips (handed_over t b ∷ xs) ys first second = absurd first
+
+pub both_rise : (tip mid last : ℕ) (xs ys : List Report) → TipsFrom tip xs mid → TipsFrom mid ys last → TipsFrom tip (xs ++ ys) last
+both_rise tip mid last [] ys first second = subst (λ k. TipsFrom k ys last) first second
+both_rise tip mid last (new_tip r h d ∷ xs) ys first second = (first.0, both_rise h mid last xs ys first.1 second)
+both_rise tip mid last (handed_over t b ∷ xs) ys first second = both_rise tip mid last xs ys first second
+
+pub both_chain : (chain : Chain) (xs ys : List Report) → AreTipsOf chain xs → AreTipsOf chain ys → AreTipsOf chain (xs ++ ys)
+both_chain chain [] ys first second = second
+both_chain chain (new_tip r h d ∷ xs) ys first second = (first.0, first.1, both_chain chain xs ys first.2 second)
+both_chain chain (handed_over t b ∷ xs) ys first second = both_chain chain xs ys first second

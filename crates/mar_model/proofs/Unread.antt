@@ -1,12 +1,13 @@
 -- A task behind a read is that task: what it does of the scene before the read.
-use Rattle.std.proofs.Common.{◌⊎◌, inl, inr, ◌∷◌, [], List, ℕ, sym, ◌∙◌, ap, subst, ◌≡◌}
+use Rattle.std.proofs.Common.{◌⊎◌, inl, inr, ◌∷◌, [], List, ℕ, refl, sym, ◌∙◌, ap, subst, ◌≡◌}
 use Rattle.mar_types.specs.Round.{Round}
 use Rattle.mar_model.specs.Held.{ArePassed, Ending, Grew, Held, LeavesMore, Loses, Watches, Written, nothing_written}
 use Rattle.mar_model.specs.Moves.{PrunesCacheBy}
 use Rattle.mar_model.specs.Node.{Ended}
 use Rattle.mar_model.specs.Promise.{Heard}
-use Rattle.mar_model.specs.Acts.{Act, AreLawful, Joins, LosesOver, ask, caches, finish_kept, finish_sync, keep_certified, keep_notarization, keep_notarized, keep_verified, keeps_for, load_cache, mark, note, process, progresses, put_finalization, reply, says, send, start_sync, store, store_late, stores, sync_progress, tell}
-use Rattle.mar_model.specs.Ran.{Breaks, DoesTask, FailsRead, FailsTask, Reads, Runs, StopsHands, Task, dispatches, does, ends}
+use Rattle.mar_model.specs.Acts.{Act, AreLawful, Joins, LosesOver, ask, caches, finish_kept, finish_sync, keep_certified, keep_notarization, keep_notarized, keep_verified, keeps_for, load_cache, mark, note, process, progresses, put_finalization, reply, says, send, start_sync, store, store_block, store_late, stores, sync_progress, sync_writes, tell, SyncsUncovered}
+use Rattle.mar_model.specs.Ran.{Breaks, DoesTask, FailsRead, FailsTask, Reads, Runs, StopsHands, Task, dispatches, does, ends, repairs}
+use Rattle.mar_model.proofs.Acting.{RunsActs-read}
 use Rattle.mar_model.specs.Scene.{Scene}
 use Rattle.mar_model.proofs.Growing.{Grew-refl, WithinWritten-nothing, WithinWritten-refl}
 use Rattle.mar_model.proofs.KeptEach.{KeepsFor-unread}
@@ -19,6 +20,13 @@ over_read s w written left leaves = record { blocks = leaves.blocks; certs = lea
 
 pruned_read : (s : Held) (w : Watches) (rounds : List Round) (new : Held) → PrunesCacheBy rounds (record s { watches = w }) new → PrunesCacheBy rounds s new
 pruned_read s w rounds new prunes = record { prunes = prunes.prunes; loaded = prunes.loaded; still_open = prunes.still_open; lowest = prunes.lowest; own_lowest = prunes.own_lowest }
+
+synced_read : (s : Held) (w : Watches) (new : Held) → SyncsUncovered s.writes.uncovered (record s { watches = w }) new → SyncsUncovered s.writes.uncovered s new
+synced_read s w new is = by s.writes.uncovered is
+  where
+    by : (uncovered : List ℕ) → SyncsUncovered uncovered (record s { watches = w }) new → SyncsUncovered uncovered s new
+    by [] none = none
+    by (h ∷ uncovered) both = record { blocks = both.blocks; certs = both.certs; written = both.written; same = both.same }
 
 module _ (inner : List ℕ → List ℕ) (s : Scene) (w : Watches) (joins : Joins s.held nothing_written (record s.held { watches = w })) (law : AreLawful s.held) where
   abbrev read : Scene
@@ -67,6 +75,8 @@ module _ (inner : List ℕ → List ℕ) (s : Scene) (w : Watches) (joins : Join
       (answered, (record { finishes = is.finishes; loaded = is.loaded; fresh = is.fresh; still_open = is.still_open; same = is.same }, told), joins_from _ _ more, lawful, same)
   unread-act (stores (store f b)) t (is, more, lawful, same) = here (does (stores (store f b))) t
       (record { blocks = is.blocks; certs = is.certs; same = is.same }, joins_from _ _ more, lawful, same)
+  unread-act (stores (store_block b)) t (is, more, lawful, same) = here (does (stores (store_block b))) t (record { blocks = is.blocks; same = is.same }, joins_from _ _ more, lawful, same)
+  unread-act (stores sync_writes) t (is, more, lawful, same) = here (does (stores sync_writes)) t (synced_read s.held w t.held is, joins_from _ _ more, lawful, same)
   unread-act (stores (store_late f b)) t (is, more, lawful, same) = here (does (stores (store_late f b))) t (record { certs = is.certs; same = is.same }, joins_from _ _ more, lawful, same)
   unread-act (stores start_sync) t (is, more, lawful, same) = here (does (stores start_sync)) t (is, joins_from _ _ more, lawful, same)
   unread-act (stores (finish_sync k)) t (is, more, lawful, same) = here (does (stores (finish_sync k))) t
@@ -85,6 +95,7 @@ module _ (inner : List ℕ → List ℕ) (s : Scene) (w : Watches) (joins : Join
 
   unread-task : (k : Task) (t : Scene) → DoesTask inner k read t → Did k t
   unread-task (does a) t did = unread-act a t did
+  unread-task (repairs buffer) t pass = here (repairs buffer) t (record { fills = pass.fills; are = pass.are; ends = pass.ends; ran = RunsActs-read inner _ s read t (record { joins = joins; same = refl }) pass.ran })
   unread-task dispatches t hands = here dispatches t (record {
     handed = hands.handed;
     heard = hands.heard;
@@ -126,7 +137,7 @@ module _ (inner : List ℕ → List ℕ) where
 
   -- the first task of one that broke: it failed behind a read, or was done
   pub breaks_first : (k : Task) (plan : List Task) (s : Scene) (e : Ending) (heard : Heard) → AreLawful s.held → Breaks inner s (k ∷ plan) e heard
-      → FailsRead s e heard ⊎ (((mid : Scene) × Reads s mid × FailsTask k mid e heard) ⊎ ((u : Scene) × DoesTask inner k s u × Breaks inner u plan e heard))
+      → FailsRead s e heard ⊎ (((mid : Scene) × Reads s mid × FailsTask inner k mid e heard) ⊎ ((u : Scene) × DoesTask inner k s u × Breaks inner u plan e heard))
   breaks_first k plan s e heard law (inl fails) = inl fails
   breaks_first k plan s e heard law (inr (mid, reads, inl fails)) = inr (inl (mid, reads, fails))
   breaks_first k plan s e heard law (inr (mid, reads, inr (after, did, breaks))) =

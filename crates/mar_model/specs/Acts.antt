@@ -18,14 +18,14 @@ use Rattle.mar_model.specs.OpenSyncs.{AreStillOpen}
 use Rattle.mar_model.specs.Cached.{Cached, finalization_entry, notarization_entry, notarized_entry, verified_entry}
 use Rattle.mar_model.specs.Event.{retired, round_at}
 use Rattle.mar_model.specs.Faults.{Fault, sync_kind, ticket_limit, want_of_memory}
-use Rattle.mar_model.specs.Held.{AreCached, ArePassed, AreWritten, Ending, Grew, Held, IsArchiveFault, IsUsual, Loses, MakesSure, WithinWritten, Written, ended_on, nothing_written, written_both, written_cert, written_entry, written_pair, written_prunes}
+use Rattle.mar_model.specs.Held.{AreCached, ArePassed, AreWritten, Ending, Grew, Held, IsArchiveFault, IsUsual, Loses, MakesSure, WithinWritten, Written, ended_on, nothing_written, written_block, written_both, written_cert, written_entry, written_pair, written_prunes}
 use Rattle.mar_model.specs.Lives.{ArePicked, later_round}
 use Rattle.mar_model.specs.Metadata.{pair_of}
 use Rattle.mar_model.specs.Moves.{CachesFinalization, FinishesCacheSync, HearsFront, KeepsFor, PrunesCacheBy, StoresWhere, at_height, is_verified_in, lacks_finalization, pruned_by, risen_to, tips_above, with_cache_of}
 use Rattle.mar_model.specs.Promise.{Heard}
 use Rattle.mar_model.specs.Requests.{raise_asks}
 use Rattle.mar_model.specs.Stored.{at_own_height, is_certified, is_held}
-use Rattle.mar_model.specs.Writing.{with_finished, with_started, with_write}
+use Rattle.mar_model.specs.Writing.{with_all_covered, with_finished, with_started, with_write}
 use Rattle.mar_model.specs.Scene.{Scene}
 
 pub data CacheAct : Type 0 where
@@ -42,8 +42,10 @@ pub data KeepAct : Type 0 where
 
 pub data StoreAct : Type 0 where
   store : Finalization → Block → StoreAct  -- put both, and a write
+  store_block : Block → StoreAct  -- put it alone, and a write
   store_late : Finalization → Block → StoreAct  -- put and synced, where it is missing
   start_sync : StoreAct
+  sync_writes : StoreAct  -- sync both archives, where a write is uncovered
   finish_sync : ℕ → StoreAct
 
 pub data ProgressAct : Type 0 where
@@ -73,6 +75,11 @@ pub record StoresBoth (inner : List ℕ → List ℕ) (f : Finalization) (b : Bl
   pub certs : Puts (is_certified inner old.certs.held b.height (inner f.payload)) old.certs (at_height b.height f) new.certs
   pub same : new ≡ record old { blocks = new.blocks; certs = new.certs; writes = with_write b.height old.writes; watches = new.watches }
 
+-- a put of the block alone
+pub record StoresBlock (b : Block) (old new : Held) : Type 0 where
+  pub blocks : Puts (is_held old.blocks.held b) old.blocks (at_own_height b) new.blocks
+  pub same : new ≡ record old { blocks = new.blocks; writes = with_write b.height old.writes; watches = new.watches }
+
 -- a finalization put and synced where it is missing
 pub record StoresMissing (inner : List ℕ → List ℕ) (f : Finalization) (b : Block) (old new : Held) : Type 0 where
   pub certs : StoresWhere (lacks_finalization old b) (is_certified inner old.certs.held b.height (inner f.payload)) old.certs (at_height b.height f) new.certs
@@ -85,11 +92,25 @@ pub record FinishesBoth (ticket : ℕ) (old new : Held) : Type 0 where
   pub written : AreWritten new
   pub same : new ≡ record old { blocks = new.blocks; certs = new.certs; writes = with_finished ticket old.writes; watches = new.watches }
 
+-- Both archives were synced, which covers every write; open syncs stay open.
+pub record SyncsBoth (old new : Held) : Type 0 where
+  pub blocks : MakesSure old.blocks new.blocks
+  pub certs : MakesSure old.certs new.certs
+  pub written : AreWritten new
+  pub same : new ≡ record old { blocks = new.blocks; certs = new.certs; writes = with_all_covered old.writes; watches = new.watches }
+
+-- where a write is uncovered
+abbrev pub SyncsUncovered : List ℕ → Held → Held → Type 0
+SyncsUncovered [] old new = new ≡ record old { watches = new.watches }
+SyncsUncovered (h ∷ uncovered) old new = SyncsBoth old new
+
 abbrev pub IsStored : (List ℕ → List ℕ) → StoreAct → Held → Held → Type 0
 IsStored inner (store f b) old new = StoresBoth inner f b old new
+IsStored inner (store_block b) old new = StoresBlock b old new
 IsStored inner (store_late f b) old new = StoresMissing inner f b old new
 IsStored inner start_sync old new = new ≡ record old { writes = with_started old.writes; watches = new.watches }
 IsStored inner (finish_sync t) old new = FinishesBoth t old new
+IsStored inner sync_writes old new = SyncsUncovered old.writes.uncovered old new
 
 -- an entry is kept with a sync of its archive that nobody waits for
 abbrev pub KeepsAlone : ℕ → Cached → (Cached → Bool) → Held → Held → Type 0
@@ -154,9 +175,11 @@ pub record Notes (r : Round) (retention : ℕ) (old new : Held) : Type 0 where
 -- what an act writes, for what a failure leaves
 abbrev pub written_stored : StoreAct → Written
 written_stored (store f b) = written_both (at_own_height b) (at_height b.height f)
+written_stored (store_block b) = written_block (at_own_height b)
 written_stored (store_late f b) = written_cert (at_height b.height f)
 written_stored start_sync = nothing_written
 written_stored (finish_sync t) = nothing_written
+written_stored sync_writes = nothing_written
 
 abbrev pub written_cached : CacheAct → Written
 written_cached (put_finalization f) = written_entry (finalization_entry f)

@@ -38,6 +38,7 @@ pub mod Metadata
 pub mod Floors
 pub mod Scene
 pub mod Acts
+pub mod Repair
 pub mod Ran
 pub mod Plans
 pub mod Due

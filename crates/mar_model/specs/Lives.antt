@@ -22,7 +22,8 @@ use Rattle.mar_model.specs.Event.{Effect, Event, blocks_from, certs_from, cutoff
 use Rattle.mar_model.specs.Cache.{MayBeCached, is_pruned, witnessing_of}
 use Rattle.mar_model.specs.Faults.{Begin, Fault, dropped_ack, event_fault, floor_epoch_unavailable, floor_invalid, floor_of, from_genesis, is_by_value, meta_store, next_after, opening_fault, store_fault, with_genesis}
 use Rattle.mar_model.specs.Answers.{answers_of, sends_of}
-use Rattle.mar_model.specs.Requests.{own_asks}
+use Rattle.mar_key.specs.Keys.{Call}
+use Rattle.mar_model.specs.Requests.{IsRepairFetch, may_repair, own_asks}
 use Rattle.mar_model.specs.Step.{AdvancesAll, AreHandedOf, AreTipsOf, HandedFrom, IsBlockFrom, IsCertFrom, IsFront, Made, Steps, TipsFrom, handed_blocks, joined_made, nothing_made}
 
 -- the processed height is backed by a sure block, and the cutoff is safe
@@ -226,6 +227,12 @@ reached_before n e = record { processed = option_map height_in n.processed; out 
 abbrev pub reached_after : Node → Event → Effect → Reached
 reached_after n e fx = record { processed = option_map height_in (processed_after n e fx); out = kept_blocks n e fx }
 
+-- what an event that was cut asked: a front of its own asks, or those and then some of a pass of repair
+abbrev pub AsksUntilCut : Config → Chain → Node → Event → Effect → List Call → Type 0
+AsksUntilCut config chain n e fx asks =
+    IsFront asks (own_asks config n e fx)
+    ⊎ (IsTrue (may_repair e) × (more : List Call) × (asks ≡ own_asks config n e fx ++ more) × AllByRecursion (IsRepairFetch chain) more)
+
 -- What an event that was cut may leave: all that was held, unless a prune may take it, and nothing more than what might be
 -- left before, blocks that were at hand, its own finalization or a cached one, and what it puts into the cache. What is sure may
 -- be left.
@@ -255,7 +262,7 @@ pub record CutsBy (config : Config) (chain : Chain) (earlier : List Pair) (least
       left
   pub may : LeavesMay config n e fx (blocks_from n e fx) (certs_from n e fx) left
   -- it asked, sent and answered no more than it would have, in that order
-  pub asks : IsFront made.asks (own_asks config n e fx)
+  pub asks : AsksUntilCut config chain n e fx made.asks
   pub sends : IsFront made.sends (sends_of n e)
   pub answers : (lowest : ℕ) × IsFront made.answers (answers_of config n lowest e fx)
   pub first_pair : (first_pair left.meta ≡ first_pair n.meta) ⊎ (fault ≡ store_fault meta_store → ⊥) × (first_pair left.meta ≡ Some (pair_of (processed_after n e fx) (cutoff_after config n e fx)))

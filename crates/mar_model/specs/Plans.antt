@@ -17,8 +17,8 @@ use Rattle.mar_model.specs.Promise.{Heard}
 use Rattle.mar_model.specs.Queries.{value_found}
 use Rattle.mar_model.specs.Requests.{want_asks}
 use Rattle.mar_model.specs.Stored.{newest}
-use Rattle.mar_model.specs.Acts.{reply, ask, caches, finish_kept, finish_sync, keep_certified, keep_notarization, keep_notarized, keep_verified, keeps_for, load_cache, mark, note, process, progresses, put_finalization, says, send, start_sync, store, store_late, stores, sync_progress, tell}
-use Rattle.mar_model.specs.Ran.{Breaks, Does, Runs, Task, dispatches, does, ends}
+use Rattle.mar_model.specs.Acts.{reply, ask, caches, finish_kept, finish_sync, keep_certified, keep_notarization, keep_notarized, keep_verified, keeps_for, load_cache, mark, note, process, progresses, put_finalization, says, send, start_sync, store, store_late, stores, sync_progress, sync_writes, tell}
+use Rattle.mar_model.specs.Ran.{Breaks, Does, Runs, Task, dispatches, does, ends, repairs}
 use Rattle.mar_model.specs.Scene.{Scene, scene, window_of}
 use Rattle.mar_gate.specs.Writing.{is_open_sync}
 
@@ -30,9 +30,12 @@ let_go_plan was_open t = if was_open then does (stores (finish_sync t)) ∷ [] e
 abbrev pub sync_plan : Bool → ℕ → List Task
 sync_plan was_open t = if was_open then does (stores (finish_sync t)) ∷ dispatches ∷ [] else []
 
--- a finalized block above the processed height is stored, told, and a sync started
-abbrev pub store_plan : Finalization → Block → List Task
-store_plan f b = if b.height == last_height then ends (height_limit b.height) ∷ [] else does (stores (store f b)) ∷ does (says (tell f.round b.height b.digest)) ∷ does (stores start_sync) ∷ []
+-- a finalized block above the processed height is stored, told, gaps are filled, and a sync started
+abbrev pub store_plan : List Block → Finalization → Block → List Task
+store_plan buffer f b =
+    if b.height == last_height
+    then ends (height_limit b.height) ∷ []
+    else does (stores (store f b)) ∷ does (says (tell f.round b.height b.digest)) ∷ repairs buffer ∷ does (stores start_sync) ∷ []
 
 -- the finalization of a held block is stored where it is missing, and told
 abbrev pub late_plan : Bool → Finalization → Block → List Task
@@ -42,13 +45,13 @@ late_plan lacking f b = does (stores (store_late f b)) ∷ (if lacking then does
 abbrev pub note_plan : Held → Finalization → Block → List Task
 note_plan h f b = does (progresses (note f.round)) ∷ late_plan (lacks_finalization h b) f b
 
-abbrev pub at_hand_plan : Held → Finalization → Option Block → List Task
-at_hand_plan h f None = does (says (ask (want_asks h.cutoff f.round f.payload))) ∷ []
-at_hand_plan h f (Some b) = if nat_lt (height_of h.processed) b.height then store_plan f b else note_plan h f b
+abbrev pub at_hand_plan : List Block → Held → Finalization → Option Block → List Task
+at_hand_plan buffer h f None = does (says (ask (want_asks h.cutoff f.round f.payload))) ∷ []
+at_hand_plan buffer h f (Some b) = if nat_lt (height_of h.processed) b.height then store_plan buffer f b else note_plan h f b
 
 -- a reported finalization is cached first
-abbrev pub final_plan : Held → Finalization → Option Block → List Task
-final_plan h f found = does (caches (put_finalization f)) ∷ at_hand_plan h f found
+abbrev pub final_plan : List Block → Held → Finalization → Option Block → List Task
+final_plan buffer h f found = does (caches (put_finalization f)) ∷ at_hand_plan buffer h f found
 
 -- WHAT AN EVENT FINDS
 
@@ -91,8 +94,9 @@ abbrev pub newest_plan : (List ℕ → List ℕ) → Option (At Finalization) �
 newest_plan inner None = []
 newest_plan inner (Some x) = does (says (tell x.value.round x.height (inner x.value.payload))) ∷ []
 
-abbrev pub start_plan : (List ℕ → List ℕ) → Held → List Task
-start_plan inner h = newest_plan inner (newest h.certs.held) ++ does (caches load_cache) ∷ dispatches ∷ []
+-- takes up the cache, fills gaps, and makes durable what that wrote before it hands over
+abbrev pub start_plan : (List ℕ → List ℕ) → List Block → Held → List Task
+start_plan inner buffer h = newest_plan inner (newest h.certs.held) ++ does (caches load_cache) ∷ repairs buffer ∷ does (stores sync_writes) ∷ dispatches ∷ []
 
 -- the oldest block is processed where it was given, and ends the life where it was dropped
 abbrev pub oldest_plan : Mark → ℕ → List Task
@@ -134,7 +138,7 @@ sent_block r peers b = record { round = r; digest = b.digest; peers = peers }
 
 -- a message that asks is answered by what stands
 abbrev pub message_plan : (List ℕ → List ℕ) → List Block → Held → Option ℕ → Message → Found → List Task
-message_plan inner buffer h t (report_finalization f) found = final_plan h f found.block
+message_plan inner buffer h t (report_finalization f) found = final_plan buffer h f found.block
 message_plan inner buffer h t (report_notarization f) found = notar_plan f found
 message_plan inner buffer h (Some t) (verified r b) found = does (keeps_for (keep_verified r b t)) ∷ []
 message_plan inner buffer h (Some t) (proposed r peers b) found = does (says (send (sent_block r peers b))) ∷ does (keeps_for (keep_verified r b t)) ∷ []
@@ -145,7 +149,7 @@ message_plan inner buffer h None m found = []
 
 -- THE PLAN OF AN EVENT
 abbrev pub plan_of : (List ℕ → List ℕ) → List Block → Scene → Event → Found → List Task
-plan_of inner buffer s (life_started f) found = start_plan inner s.held
+plan_of inner buffer s (life_started f) found = start_plan inner buffer s.held
 plan_of inner buffer s (message_told t m) found = message_plan inner buffer s.held t m found
 plan_of inner buffer s (sync_finished t) found = finish_plan s.held t
 plan_of inner buffer s (ack_marked t m) found = ack_plan s.life.out t m

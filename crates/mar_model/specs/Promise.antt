@@ -3,7 +3,7 @@ use Rattle.std.specs.List.{AllByRecursion, filter_map}
 use Rattle.std.specs.Prelude.{Bool, Contains, flat_map, IsTrue, List, MatchResult, None, Option, Result, Some, [], false, length, true, ℕ, ⊤, ◌++◌, ◌<◌, ◌∷◌, ◌≡◌, ◌⊎◌}
 use Rattle.mar_types.specs.Epochs.{Epochs, IsPartition}
 use Rattle.mar_cert.specs.Block.{Block}
-use Rattle.mar_cert.specs.Finalization.{Finalization, finalization_bytes}
+use Rattle.mar_cert.specs.Finalization.{finalization_bytes}
 use Rattle.mar_store.specs.Sizes.{IsSmall}
 use Rattle.mar_key.specs.Asked.{Asked, asked_after}
 use Rattle.mar_key.specs.Hears.{Hears}

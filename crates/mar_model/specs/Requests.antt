@@ -1,6 +1,6 @@
 -- What a node asks of its resolver.
 use Rattle.std.specs.List.{AllByRecursion}
-use Rattle.std.specs.Prelude.{AllPairs, Bool, Contains, IsFalse, IsSome, IsTrue, List, None, Option, Some, [], count_by, false, if◌then◌else◌, length, nat_lt, true, ℕ, ◌++◌, ◌+◌, ◌-◌, ◌<◌, ◌||◌, ◌∷◌, ◌≡◌, ◌≢◌, ◌≤◌, ◌⊎◌}
+use Rattle.std.specs.Prelude.{AllPairs, Bool, Contains, IsFalse, IsSome, IsTrue, List, None, Option, Some, [], count_by, false, if◌then◌else◌, length, nat_lt, option_map, slice_get, true, ℕ, ◌++◌, ◌+◌, ◌-◌, ◌<◌, ◌||◌, ◌∷◌, ◌≡◌, ◌≢◌, ◌≤◌, ◌⊎◌}
 use Rattle.mar_types.specs.Epochs.{Epochs}
 use Rattle.mar_types.specs.Round.{Round}
 use Rattle.mar_cert.specs.Block.{Block}
@@ -10,6 +10,7 @@ use Rattle.mar_key.specs.Processed.{Processed, height_in, height_of}
 use Rattle.mar_store.specs.Kept.{At, has_height, value_at}
 use Rattle.mar_key.specs.Keys.{Annotation, Call, Key, above_height, above_round, block_key, certified_at, fetch, finalized_by_height, finalized_by_round, finalized_key, for_notarization, notarized_key, retain, untrusted_at}
 use Rattle.mar_model.specs.Messages.{Fallback, fetch_by_commitment, fetch_by_round, hint_finalized, hint_notarized, report_finalization, subscribe_commitment, subscribe_digest, wait}
+use Rattle.mar_model.specs.Chain.{Chain}
 use Rattle.mar_model.specs.Config.{Config}
 use Rattle.mar_model.specs.Acks.{Outstanding}
 use Rattle.mar_model.specs.Node.{Awaited, Node, at_hand}
@@ -76,65 +77,91 @@ own_asks config n e no_floor = retire_asks config.epochs n.certs.held n.cutoff (
 own_asks config n e (awaits_floor a) = want_asks n.cutoff a.round a.commitment
 own_asks config n e (applies_floor r b) = (if is_above n b then retain (above_height (b.height - 1)) ∷ [] else []) ++ raise_asks n.cutoff (floor_cutoffs config n (applies_floor r b))
 
--- REPAIR
+-- REPAIR, by the blocks that are held and how a block at hand is looked up
 
 -- a missing height from s on that lies below a held one
-abbrev pub IsGap : Node → ℕ → ℕ → Type 0
-IsGap n s h = (s ≤ h) × IsFalse (has_height n.blocks.held h) × (k : ℕ) × (h < k) × IsTrue (has_height n.blocks.held k)
+abbrev pub IsGapIn : List (At Block) → ℕ → ℕ → Type 0
+IsGapIn held s h = (s ≤ h) × IsFalse (has_height held h) × (k : ℕ) × (h < k) × IsTrue (has_height held k)
 
 -- the finalization of this height is asked for
 abbrev pub AsksHeight : List Call → ℕ → Type 0
 AsksHeight asks h = Contains asks (fetch (finalized_key h) (finalized_by_height h) None)
 
 -- b is held right above the lowest gap: no block is held between any missing height below it and b
-abbrev pub IsUpperEnd : Node → ℕ → Block → Type 0
-IsUpperEnd n s b =
-    IsGap n s (b.height - 1) × (value_at n.blocks.held b.height ≡ Some b)
-    × ((h k : ℕ) → IsGap n s h → h < k → k < b.height → IsFalse (has_height n.blocks.held k))
+abbrev pub IsUpperEndIn : List (At Block) → ℕ → Block → Type 0
+IsUpperEndIn held s b =
+    IsGapIn held s (b.height - 1) × (value_at held b.height ≡ Some b)
+    × ((h k : ℕ) → IsGapIn held s h → h < k → k < b.height → IsFalse (has_height held k))
 
 -- the parent that b names is asked for by commitment and height, or is at hand with another height
-abbrev pub AsksParent : Node → List Call → Block → Type 0
-AsksParent n asks b =
-    ((at_hand n b.parent_commitment ≡ None) × Contains asks (fetch (block_key b.parent_commitment) (finalized_by_height (b.height - 1)) None))
-    ⊎ ((parent : Block) × (at_hand n b.parent_commitment ≡ Some parent) × (parent.height + 1 ≡ b.height → ⊥))
+abbrev pub AsksParentOf : (List ℕ → Option Block) → List Call → Block → Type 0
+AsksParentOf find asks b =
+    ((find b.parent_commitment ≡ None) × Contains asks (fetch (block_key b.parent_commitment) (finalized_by_height (b.height - 1)) None))
+    ⊎ ((parent : Block) × (find b.parent_commitment ≡ Some parent) × (parent.height + 1 ≡ b.height → ⊥))
 
--- one of the lowest missing heights: fewer than max_repair are missing below it
-abbrev pub IsLowGap : Config → Node → ℕ → Type 0
-IsLowGap config n h =
-    IsGap n (height_of n.processed + 1) h
-    × ((below : List ℕ) → AllPairs (λ j k. j ≢ k) below → AllByRecursion (λ k. IsGap n (height_of n.processed + 1) k × (k < h)) below → length below < config.max_repair)
+-- one of the lowest missing heights: fewer than so many are missing below it
+abbrev pub IsLowGapIn : ℕ → List (At Block) → ℕ → ℕ → Type 0
+IsLowGapIn most held s h =
+    IsGapIn held s h × ((below : List ℕ) → AllPairs (λ j k. j ≢ k) below → AllByRecursion (λ k. IsGapIn held s k × (k < h)) below → length below < most)
 
 -- the newest certificate's block, or the parent that the lowest gap's upper end names
-abbrev pub IsRepairBlock : Node → List ℕ → ℕ → Type 0
-IsRepairBlock n c h =
-    (at_hand n c ≡ None)
-    × (((b : Block) × IsUpperEnd n (height_of n.processed + 1) b × (c ≡ b.parent_commitment) × (h + 1 ≡ b.height))
-    ⊎ ((f : Finalization) × (value_at n.certs.held h ≡ Some f) × (c ≡ f.payload) × ((k : ℕ) → IsTrue (has_height n.blocks.held k) → k < h)))
+abbrev pub IsRepairBlockOf : (List ℕ → Option Block) → List (At Block) → List (At Finalization) → ℕ → List ℕ → ℕ → Type 0
+IsRepairBlockOf find held certs s c h =
+    (find c ≡ None)
+    × (((b : Block) × IsUpperEndIn held s b × (c ≡ b.parent_commitment) × (h + 1 ≡ b.height))
+    ⊎ ((f : Finalization) × (value_at certs h ≡ Some f) × (c ≡ f.payload) × ((k : ℕ) → IsTrue (has_height held k) → k < h)))
 
 -- what a pass may ask: nothing else, and no retain
-abbrev pub IsRepairAsk : Config → Node → Call → Type 0
-IsRepairAsk config n (fetch (finalized_key h) annotation targets) = (annotation ≡ finalized_by_height h) × (targets ≡ None) × IsLowGap config n h
-IsRepairAsk config n (fetch (block_key c) annotation targets) = (targets ≡ None) × (h : ℕ) × (annotation ≡ finalized_by_height h) × IsRepairBlock n c h
-IsRepairAsk config n (fetch (notarized_key r) annotation targets) = ⊥
-IsRepairAsk config n (retain keep) = ⊥
+abbrev pub IsRepairAskOf : ℕ → (List ℕ → Option Block) → List (At Block) → List (At Finalization) → ℕ → Call → Type 0
+IsRepairAskOf most find held certs s (fetch (finalized_key h) annotation targets) = (annotation ≡ finalized_by_height h) × (targets ≡ None) × IsLowGapIn most held s h
+IsRepairAskOf most find held certs s (fetch (block_key c) annotation targets) = (targets ≡ None) × (h : ℕ) × (annotation ≡ finalized_by_height h) × IsRepairBlockOf find held certs s c h
+IsRepairAskOf most find held certs s (fetch (notarized_key r) annotation targets) = ⊥
+IsRepairAskOf most find held certs s (retain keep) = ⊥
 
 abbrev pub is_height_fetch : Call → Bool
 is_height_fetch (fetch (finalized_key h) annotation targets) = true
 is_height_fetch _ = false
 
--- What a pass asks for, of the node after it.
-pub record Repaired (config : Config) (n : Node) (asks : List Call) : Type 0 where
-  -- the lowest missing heights: one with fewer than max_repair missing below it is asked for, and no more are
-  pub heights : (h : ℕ) (below : List ℕ) → IsGap n (height_of n.processed + 1) h → ((k : ℕ) → IsGap n (height_of n.processed + 1) k → k < h → Contains below k) → length below < config.max_repair → AsksHeight asks h
-  pub at_most : count_by is_height_fetch asks ≤ config.max_repair
-  pub only : AllByRecursion (IsRepairAsk config n) asks
-  pub parent : (b : Block) → IsUpperEnd n (height_of n.processed + 1) b → AsksParent n asks b
+-- What a pass asks for, of what is held after it, where the processed height is this.
+pub record IsRepaired (most : ℕ) (find : List ℕ → Option Block) (processed : ℕ) (held : List (At Block)) (certs : List (At Finalization)) (asks : List Call) : Type 0 where
+  -- the lowest missing heights: one with fewer than `most` missing below it is asked for, and no more are
+  pub heights : (h : ℕ) (below : List ℕ) → IsGapIn held (processed + 1) h → ((k : ℕ) → IsGapIn held (processed + 1) k → k < h → Contains below k) → length below < most → AsksHeight asks h
+  pub at_most : count_by is_height_fetch asks ≤ most
+  pub only : AllByRecursion (IsRepairAskOf most find held certs (processed + 1)) asks
+  pub parent : (b : Block) → IsUpperEndIn held (processed + 1) b → AsksParentOf find asks b
   -- the newest certificate above the processed height and every held block has its block stored or asked for
-  pub newest_block : (h : ℕ) (f : Finalization) → value_at n.certs.held h ≡ Some f → height_of n.processed < h → ((k : ℕ) → IsTrue (has_height n.certs.held k) → k ≤ h) → ((k : ℕ) → IsTrue (has_height n.blocks.held k) → k ≤ h) → IsTrue (has_height n.blocks.held h) ⊎ Contains asks (fetch (block_key f.payload) (finalized_by_height h) None)
+  pub newest_block : (h : ℕ) (f : Finalization) → value_at certs h ≡ Some f → processed < h → ((k : ℕ) → IsTrue (has_height certs k) → k ≤ h) → ((k : ℕ) → IsTrue (has_height held k) → k ≤ h) → IsTrue (has_height held h) ⊎ Contains asks (fetch (block_key f.payload) (finalized_by_height h) None)
+
+-- of a node
+abbrev pub IsGap : Node → ℕ → ℕ → Type 0
+IsGap n s h = IsGapIn n.blocks.held s h
+
+abbrev pub IsRepairAsk : Config → Node → Call → Type 0
+IsRepairAsk config n call = IsRepairAskOf config.max_repair (at_hand n) n.blocks.held n.certs.held (height_of n.processed + 1) call
+
+abbrev pub AsksParent : Node → List Call → Block → Type 0
+AsksParent n asks b = AsksParentOf (at_hand n) asks b
+
+-- What a pass asks for, of the node after it.
+abbrev pub Repaired : Config → Node → List Call → Type 0
+Repaired config n asks = IsRepaired config.max_repair (at_hand n) (height_of n.processed) n.blocks.held n.certs.held asks
 
 abbrev pub awaits_no_more : Option Awaited → Option Awaited → Bool
 awaits_no_more (Some a) None = true
 awaits_no_more _ _ = false
+
+-- a life that begins and a reported finalization may repair
+abbrev pub may_repair : Event → Bool
+may_repair (life_started f) = true
+may_repair (message_told t (report_finalization f)) = true
+may_repair _ = false
+
+-- what a pass asks for that is cut: the finalization of some height, or a block of the chain by its height
+abbrev pub IsRepairFetch : Chain → Call → Type 0
+IsRepairFetch chain (fetch (finalized_key h) annotation targets) = (annotation ≡ finalized_by_height h) × (targets ≡ None)
+IsRepairFetch chain (fetch (block_key c) annotation targets) = (targets ≡ None) × (h : ℕ) × (annotation ≡ finalized_by_height h) × (option_map (λ b. b.commitment) (slice_get chain.blocks h) ≡ Some c)
+IsRepairFetch chain (fetch (notarized_key r) annotation targets) = ⊥
+IsRepairFetch chain (retain keep) = ⊥
 
 -- an event with a repair pass: the start, a finalization stored above the processed height, the end of
 -- a `serve`, an applied or released floor

@@ -17,7 +17,7 @@ use Rattle.mar_model.specs.Event.{Effect, Event, Storing, applies_floor, awaited
 use Rattle.mar_model.specs.Cache.{AdvancesCache, MayBeCached, entries_with_puts, started_syncs}
 use Rattle.mar_model.specs.Faults.{event_fault}
 use Rattle.mar_model.specs.Answers.{Sent, TicketAnswer, answers_of, certified_after, is_known, sends_of, subscriptions_after}
-use Rattle.mar_model.specs.Requests.{awaits_no_more, is_pass, own_asks}
+use Rattle.mar_model.specs.Requests.{Passes, awaits_no_more, is_pass, own_asks}
 
 -- what the application is told
 pub data Report : Type 0 where
@@ -192,7 +192,9 @@ IsFloorStored n _ n' = ⊤
 -- What stands beside: told by the lists that were made, or untouched by a step. Certified commitments
 -- are compared by look-ups.
 pub record Beside (config : Config) (n : Node) (e : Event) (fx : Effect) (made : Made) (n' : Node) : Type 0 where
-  pub asks : made.asks ≡ own_asks config n e fx
+  pub more : List Call  -- by repair
+  pub asks : made.asks ≡ own_asks config n e fx ++ more
+  pub passes : Passes config n e fx n' more
   pub sends : made.sends ≡ sends_of n e
   pub answers : made.answers ≡ answers_of config n n'.lowest e fx
   pub subscriptions : n'.subscriptions ≡ subscriptions_after n e fx

@@ -8,13 +8,13 @@ ghost use Rattle.mar_model.specs.Moves.{CachesEntry};
 ghost use Rattle.mar_model.specs.Views.{fault_of};
 
 use crate::fault::Fault;
-use crate::holds::Holds;
+use crate::holds_gaps::HoldsGaps;
 use crate::started::Started;
 use mar_cert::{CommitsTo, Variant};
 
-/// The stores of a life where they cache notarizations of this type. It is a trait of its own so that a rule which puts none
-/// names no such type.
-pub trait HoldsNotarizations<V: Variant>: Holds<V> {
+/// All that is asked of the stores of a life, where they cache notarizations of this type. It is a trait of its own so that a rule
+/// which puts none names no such type.
+pub trait HoldsNotarizations<V: Variant>: HoldsGaps<V> {
     /// A notarization as it is cached.
     type Notarization: CommitsTo<V::Commitment>;
 

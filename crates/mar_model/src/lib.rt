@@ -3,6 +3,7 @@
 //! stand below, and are handed on here.
 #![tactic(auto)]
 
+mod at_hand;
 mod cache;
 mod closed;
 mod entry;
@@ -10,6 +11,7 @@ mod fault;
 mod floor;
 mod holds;
 mod holds_cache;
+mod holds_gaps;
 mod holds_notarizations;
 mod holds_progress;
 mod names;
@@ -24,6 +26,7 @@ mod started;
 mod stream;
 mod upto;
 
+pub use at_hand::block_at_hand;
 pub use cache::{Cache, ShelfRuin};
 pub use closed::closed_epoch;
 pub use entry::{BlockName, Entry, Sought, sought_block};
@@ -31,6 +34,7 @@ pub use fault::{Fault, StoreName, TicketKind};
 pub use floor::{FetchAdmission, State};
 pub use holds::{Ended, Holds, StoresRuin};
 pub use holds_cache::HoldsCache;
+pub use holds_gaps::HoldsGaps;
 pub use holds_notarizations::HoldsNotarizations;
 pub use holds_progress::HoldsProgress;
 pub use mar_gate::{DispatchGate, OpenSync, Staged, Writes};

@@ -61,7 +61,7 @@ cut = record {
     sure_certs = λ h sure. sure;
     cached = λ x has. inl has;
   };
-  asks = ([], refl);
+  asks = inl ([], refl);
   sends = ([], refl);
   answers = (0, ([], refl));
   first_pair = inl refl;

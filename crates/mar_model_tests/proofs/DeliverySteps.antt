@@ -23,7 +23,7 @@ use Rattle.mar_model_tests.proofs.SmallChain.{b0, b1, d1, f1, r1, config}
 use Rattle.mar_model_tests.proofs.DeliveryRun.{fresh, making, none_failed, begun, n0, n1, n2, n3, n4, n5, delivery_run, one_entry}
 use Rattle.mar_model_tests.proofs.SmallEntries.{cached_of, caches_report, new_block, new_cert, new_certificates}
 use Rattle.mar_model_tests.proofs.SmallFacts.{entered_height, entered_own}
-use Rattle.mar_model_tests.proofs.SmallSteps.{settled, settled_good, stores_nothing}
+use Rattle.mar_model_tests.proofs.SmallSteps.{first_held, passes_none, settled, settled_good, stores_nothing, two_held}
 
 -- what is held from block 1 on
 abbrev pub both_blocks : List (At Block)
@@ -147,7 +147,7 @@ module _ (chain : Chain) (at0 : IsBlockAt chain 0 b0) (at1 : IsBlockAt chain 1 b
 
     starts : Advances config chain begun (life_started None) (record nothing_made { reports = handed_over 0 b0 ∷ [] }) n0
     starts = stores_nothing chain begun (life_started None) (record { no_effect = refl; no_storing = refl; untold = refl; no_query = refl; no_fault = refl; no_puts = λ after. refl; no_syncs = λ n. refl; no_tickets = refl; lowest = refl; still_lowest = refl; own_lowest = (0, lit< tt, refl) }) (handed_over 0 b0 ∷ []) begun.blocks.sure [] begun.meta
-        (record { in_order = (refl, refl, refl, tt); counted = refl; out = refl; below_barrier = (tt, tt) }) ((at0, refl), tt) (λ h v is. is) (λ h v is. is) refl tt
+        (record { in_order = (refl, refl, refl, tt); counted = refl; out = refl; below_barrier = (tt, tt) }) ((at0, refl), tt) (λ h v is. is) (λ h v is. is) refl tt (inr (first_held n0 b0 refl refl))
 
     opens : LineDone config chain fresh (stopped empty_stores) (open_line (from_genesis b0)) (making (record nothing_made { reports = handed_over 0 b0 ∷ [] })) (running n0)
     opens = (_, record { first = begun; finds = finds; begun = begun; takes = record { cache = record { held = []; sure = []; may = [] }; loads = record { with_sure = λ x has. has; within_may = λ x has. has; sure = λ x has. has; may = λ x has. has; once = tt }; by_luck = refl; syncs = []; still_open = tt; begun_is = refl }; start = record { unticketed = n0; advances = starts; ticket = refl; rests = block_missing refl; good = good0 } }, refl, refl)
@@ -191,7 +191,7 @@ module _ (chain : Chain) (at0 : IsBlockAt chain 0 b0) (at1 : IsBlockAt chain 1 b
       floor_stored = tt;
       query = λ is. cc;
       no_fault = refl;
-      beside = record { asks = refl; sends = refl; answers = refl; subscriptions = refl; certified = λ h c. refl; next_sync = refl; untouched = refl };
+      beside = record { more = []; asks = refl; passes = passes_none n1 (message_told None (report_finalization f1)) unticketed (inr (two_held unticketed b0 b1 f1 refl refl)); sends = refl; answers = refl; subscriptions = refl; certified = λ h c. refl; next_sync = refl; untouched = refl };
     }
 
     finals : LineDone config chain fresh (running n1) (tell_line (report_finalization f1)) (making (record nothing_made { reports = new_tip r1 1 d1 ∷ [] })) (running n2)
@@ -199,19 +199,19 @@ module _ (chain : Chain) (at0 : IsBlockAt chain 0 b0) (at1 : IsBlockAt chain 1 b
 
     synced : Advances config chain n2 (sync_finished 0) (record nothing_made { reports = handed_over 1 b1 ∷ [] }) n3
     synced = stores_nothing chain n2 (sync_finished 0) (record { no_effect = refl; no_storing = refl; untold = refl; no_query = refl; no_fault = refl; no_puts = λ after. refl; no_syncs = λ n. refl; no_tickets = refl; lowest = refl; still_lowest = refl; own_lowest = (0, lit< tt, refl) }) (handed_over 1 b1 ∷ []) n2.blocks.held n2.certs.held n2.meta
-        (record { in_order = (refl, refl, refl, tt); counted = refl; out = refl; below_barrier = (tt, tt) }) ((at1, refl), tt) first_stays (λ h v is. absurd cc) refl tt
+        (record { in_order = (refl, refl, refl, tt); counted = refl; out = refl; below_barrier = (tt, tt) }) ((at1, refl), tt) first_stays (λ h v is. absurd cc) refl tt (inl refl)
 
     syncs : LineDone config chain fresh (running n2) (sync_line 0) (making (record nothing_made { reports = handed_over 1 b1 ∷ [] })) (running n3)
     syncs = (_, record { unticketed = n3; advances = synced; ticket = refl; rests = window_full refl; good = good3 }, refl, refl, refl)
 
     acked0 : Advances config chain n3 (ack_given 0) (record nothing_made { asks = retain (above_height 0) ∷ [] }) n4
-    acked0 = stores_nothing chain n3 (ack_given 0) (record { no_effect = refl; no_storing = refl; untold = refl; no_query = refl; no_fault = refl; no_puts = λ after. refl; no_syncs = λ n. refl; no_tickets = refl; lowest = refl; still_lowest = refl; own_lowest = (0, lit< tt, refl) }) [] n3.blocks.sure n3.certs.sure n4.meta (record { in_order = tt; counted = refl; out = refl; below_barrier = tt }) tt (λ h v is. is) (λ h v is. is) refl tt
+    acked0 = stores_nothing chain n3 (ack_given 0) (record { no_effect = refl; no_storing = refl; untold = refl; no_query = refl; no_fault = refl; no_puts = λ after. refl; no_syncs = λ n. refl; no_tickets = refl; lowest = refl; still_lowest = refl; own_lowest = (0, lit< tt, refl) }) [] n3.blocks.sure n3.certs.sure n4.meta (record { in_order = tt; counted = refl; out = refl; below_barrier = tt }) tt (λ h v is. is) (λ h v is. is) refl tt (inl refl)
 
     acks0 : LineDone config chain fresh (running n3) (ack_line 0) (making (record nothing_made { asks = retain (above_height 0) ∷ [] })) (running n4)
     acks0 = (_, record { unticketed = n4; advances = acked0; ticket = refl; rests = block_missing refl; good = good4 }, refl, refl, refl)
 
     acked1 : Advances config chain n4 (ack_given 1) (record nothing_made { asks = retain (above_height 1) ∷ retain (above_round (at_round r1)) ∷ [] }) n5
-    acked1 = stores_nothing chain n4 (ack_given 1) (record { no_effect = refl; no_storing = refl; untold = refl; no_query = refl; no_fault = refl; no_puts = λ after. refl; no_syncs = λ n. refl; no_tickets = refl; lowest = refl; still_lowest = refl; own_lowest = (0, lit< tt, refl) }) [] n4.blocks.sure n4.certs.sure n5.meta (record { in_order = tt; counted = refl; out = refl; below_barrier = tt }) tt (λ h v is. is) (λ h v is. is) refl tt
+    acked1 = stores_nothing chain n4 (ack_given 1) (record { no_effect = refl; no_storing = refl; untold = refl; no_query = refl; no_fault = refl; no_puts = λ after. refl; no_syncs = λ n. refl; no_tickets = refl; lowest = refl; still_lowest = refl; own_lowest = (0, lit< tt, refl) }) [] n4.blocks.sure n4.certs.sure n5.meta (record { in_order = tt; counted = refl; out = refl; below_barrier = tt }) tt (λ h v is. is) (λ h v is. is) refl tt (inl refl)
 
     acks1 : LineDone config chain fresh (running n4) (ack_line 1) (making (record nothing_made { asks = retain (above_height 1) ∷ retain (above_round (at_round r1)) ∷ [] })) (running n5)
     acks1 = (_, record { unticketed = n5; advances = acked1; ticket = refl; rests = block_missing refl; good = good5 }, refl, refl, refl)

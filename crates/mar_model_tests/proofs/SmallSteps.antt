@@ -1,23 +1,24 @@
 -- What is the same in each of the small steps: nodes whose stores are settled, and events that store nothing.
-use Rattle.std.proofs.Common.{◌≡◌, ◌≤◌, ℕ, List, [], ◌∷◌, ◌++◌, Contains, IsTrue, Some, None, option_map, false, true, nat_lt, drop, length, map, max, refl, sym, subst, ap, inl, lit≤, arith, ◌-◌, ◌+◌, ◌∙◌}
+use Rattle.std.proofs.Common.{◌≡◌, ◌≤◌, ℕ, List, [], ◌∷◌, ◌++◌, Contains, IsTrue, Some, None, option_map, false, true, nat_lt, drop, length, map, max, refl, sym, subst, ap, inl, lit≤, arith, ◌-◌, ◌+◌, ◌∙◌, ◌⊎◌, ⊎_elim, ◌==◌, Bool, Option, is_some, if◌then◌else◌, append-nil, inr}
 use Rattle.std.specs.List.{AllByRecursion}
 use Rattle.std.specs.Prelude.{IfSome, fold}
+use Rattle.std.proofs.lemmas.Bool.Decides.{nat_tests}
 use Rattle.std.proofs.lemmas.List.Elements.{Contains-append_left}
 use Rattle.mar_cert.specs.Block.{Block}
 use Rattle.mar_cert.specs.Finalization.{Finalization}
 use Rattle.mar_key.specs.Processed.{height_in, height_of}
 use Rattle.mar_store.specs.Changes.{KeepsValues}
-use Rattle.mar_store.specs.Kept.{At, has_height, reopened_store}
+use Rattle.mar_store.specs.Kept.{At, has_height, reopened_store, value_at}
 use Rattle.mar_model.specs.Answers.{answers_of, certified_after, sends_of, subscriptions_after}
 use Rattle.mar_model.specs.Cache.{AdvancesCache, answer_ticket, entries_put, finished_covers, first_verified, is_pruned, is_synced, lowest_after, started_syncs, tickets_from, without_cache_sync, witnessing_of}
 use Rattle.mar_model.specs.Cached.{Cached, with_entry}
 use Rattle.mar_model.specs.Chain.{Chain}
-use Rattle.mar_model.specs.Event.{Event, awaited_after, cutoff_after, effect_of, is_query, no_floor, own_writes, processed_after, storing_of, sync_finished, told_finalization, undrained_blocks}
+use Rattle.mar_model.specs.Event.{Event, awaited_after, cutoff_after, effect_of, is_query, life_started, no_floor, own_writes, processed_after, storing_of, sync_finished, told_finalization, undrained_blocks}
 use Rattle.mar_model.specs.Faults.{event_fault}
 use Rattle.mar_model.specs.OpenSyncs.{AreStillOpen, covered_by, without_ticket}
 use Rattle.mar_model.specs.Metadata.{Pair, pair_of}
 use Rattle.mar_model.specs.Node.{AreBlocksOf, AreFinalizationsOf, FloorSafe, IsCacheOf, IsGood, IsGoodDelivery, Node, empty_peers}
-use Rattle.mar_model.specs.Requests.{own_asks}
+use Rattle.mar_model.specs.Requests.{IsGapIn, Passes, Repaired, is_pass, own_asks, repairs_twice}
 use Rattle.mar_model.specs.Step.{Advances, AdvancesBy, AreHandedOf, AreTipsOf, HandsOver, IsStored, IsStoredLate, Made, Report, TipsFrom, finished_position, handed_blocks, outstanding_of, without_finished}
 use Rattle.mar_model_tests.proofs.SmallChain.{config}
 use Rattle.mar_model_tests.proofs.SmallEntries.{same_certificates, settled_of, settled_stores}
@@ -58,6 +59,71 @@ settled_good chain n blocks certs entries delivery of_blocks of_certs of_entries
     floor_safe = safe;
     tip_reported = told;
   };
+}
+
+-- PASSES THAT ASK FOR NOTHING
+
+-- where nothing is missing, a pass asks for nothing
+nothing_missing : (n : Node) → ((k : ℕ) → IsTrue (has_height n.blocks.held k) → k ≤ 1) → ((h : ℕ) (f : Finalization) → value_at n.certs.held h ≡ Some f → IsTrue (has_height n.blocks.held h)) → Repaired config n []
+nothing_missing n low certified = record {
+  heights = λ h below gap all few. absurd (no_gap h gap);
+  at_most = omega arith;
+  only = tt;
+  parent = λ b upper. absurd (no_gap (b.height - 1) upper.0);
+  newest_block = λ h f there above certs blocks. inl (certified h f there);
+}
+  where
+    no_gap : (h : ℕ) → IsGapIn n.blocks.held (height_of n.processed + 1) h → ⊥
+    no_gap h (above, missing, k, below, held) = let most : k ≤ 1 = low k held in absurd (omega arith)
+
+-- block 0 alone is held
+pub first_held : (n : Node) (b : Block) → n.blocks.held ≡ record { height = 0; value = b } ∷ [] → n.certs.held ≡ [] → Repaired config n []
+first_held n b blocks certs = nothing_missing n (subst (λ xs. (k : ℕ) → IsTrue (has_height xs k) → k ≤ 1) (sym blocks) low)
+    (subst (λ xs. (h : ℕ) (f : Finalization) → value_at xs h ≡ Some f → IsTrue (has_height n.blocks.held h)) (sym certs) (λ h f there. absurd cc))
+  where
+    low : (k : ℕ) → IsTrue (has_height (record { height = 0; value = b } ∷ []) k) → k ≤ 1
+    low k = by (0 == k) refl
+      where
+        by : (a : Bool) → (0 == k) ≡ a → IsTrue (is_some (if a then Some b else None)) → k ≤ 1
+        by true is held = grind (arith, nat_tests)
+        by false is held = absurd cc
+
+-- blocks 0 and 1 are held, and the certificate of block 1
+pub two_held : (n : Node) (b c : Block) (f : Finalization) → n.blocks.held ≡ record { height = 0; value = b } ∷ record { height = 1; value = c } ∷ [] → n.certs.held ≡ record { height = 1; value = f } ∷ [] → Repaired config n []
+two_held n b c f blocks certs = nothing_missing n (subst (λ xs. (k : ℕ) → IsTrue (has_height xs k) → k ≤ 1) (sym blocks) low)
+    (subst (λ xs. (h : ℕ) (g : Finalization) → value_at xs h ≡ Some g → IsTrue (has_height n.blocks.held h)) (sym certs)
+    (subst (λ ys. (h : ℕ) (g : Finalization) → value_at (record { height = 1; value = f } ∷ []) h ≡ Some g → IsTrue (has_height ys h)) (sym blocks) certified))
+  where
+    low : (k : ℕ) → IsTrue (has_height (record { height = 0; value = b } ∷ record { height = 1; value = c } ∷ []) k) → k ≤ 1
+    low k = by (0 == k) (1 == k) refl refl
+      where
+        by : (p q : Bool) → (0 == k) ≡ p → (1 == k) ≡ q → IsTrue (is_some (if p then Some b else if q then Some c else None)) → k ≤ 1
+        by true q is other held = grind (arith, nat_tests)
+        by false true is other held = grind (arith, nat_tests)
+        by false false is other held = absurd cc
+
+    certified : (h : ℕ) (g : Finalization) → value_at (record { height = 1; value = f } ∷ []) h ≡ Some g → IsTrue (has_height (record { height = 0; value = b } ∷ record { height = 1; value = c } ∷ []) h)
+    certified h g = by (0 == h) (1 == h)
+      where
+        by : (p q : Bool) → ◌≡◌ {A = Option Finalization} (if q then Some f else None) (Some g) → IsTrue (is_some (if p then Some b else if q then Some c else None))
+        by true q there = refl
+        by false true there = refl
+        by false false there = absurd cc
+
+single : (e : Event) → repairs_twice e no_floor ≡ false
+single (life_started f) = refl
+single _ = refl
+
+-- a step in which no pass runs, or one that asks for nothing
+pub passes_none : (n : Node) (e : Event) (n' : Node) → (is_pass n e no_floor n' ≡ false) ⊎ Repaired config n' [] → Passes config n e no_floor n' []
+passes_none n e n' quiet = record {
+  first = [];
+  second = [];
+  split = refl;
+  idle = λ is. refl;
+  once = λ is. refl;
+  repaired_first = λ twice none. absurd (let no : false ≡ true = sym (single e) ∙ twice in cc);
+  repaired = λ pass none. ⊎_elim (λ idle. absurd (let no : false ≡ true = sym idle ∙ pass in cc)) (λ repaired. repaired) quiet;
 }
 
 -- EVENTS THAT STORE NOTHING
@@ -139,8 +205,8 @@ module _ (chain : Chain) (n : Node) (e : Event) (nothing : StoresNothing n e) (r
   }
 
   -- it goes on from there, where its blocks are the next ones and sure, no tip is told and nothing sure is lost
-  pub stores_nothing : HandsOver n (undrained_blocks n e) reports reached → AreHandedOf chain blocks_sure (handed_blocks reports) → KeepsValues n.blocks.sure blocks_sure → KeepsValues n.certs.sure certs_sure → TipsFrom n.tip reports n.tip → AreTipsOf chain reports → Advances config chain n e made reached
-  stores_nothing hands hands_chain blocks_kept certs_kept tips tips_chain = subst (λ fx. AdvancesBy config chain n e fx made reached) (sym nothing.no_effect) (record {
+  pub stores_nothing : HandsOver n (undrained_blocks n e) reports reached → AreHandedOf chain blocks_sure (handed_blocks reports) → KeepsValues n.blocks.sure blocks_sure → KeepsValues n.certs.sure certs_sure → TipsFrom n.tip reports n.tip → AreTipsOf chain reports → (is_pass n e no_floor reached ≡ false) ⊎ Repaired config reached [] → Advances config chain n e made reached
+  stores_nothing hands hands_chain blocks_kept certs_kept tips tips_chain quiet = subst (λ fx. AdvancesBy config chain n e fx made reached) (sym nothing.no_effect) (record {
     hands = hands;
     hands_chain = hands_chain;
     processed = refl;
@@ -176,7 +242,9 @@ module _ (chain : Chain) (n : Node) (e : Event) (nothing : StoresNothing n e) (r
     query = λ is. absurd (let none : false ≡ true = sym nothing.no_query ∙ is in cc);
     no_fault = nothing.no_fault;
     beside = record {
-      asks = refl;
+      more = [];
+      asks = sym (append-nil (own_asks config n e no_floor));
+      passes = passes_none n e reached quiet;
       sends = refl;
       answers = refl;
       subscriptions = refl;

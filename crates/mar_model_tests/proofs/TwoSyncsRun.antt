@@ -14,13 +14,13 @@ use Rattle.mar_model.specs.Step.{handed_over, nothing_made, Advances}
 use Rattle.mar_script.specs.Script.{tell_line, sync_line}
 use Rattle.mar_script.specs.Text.{output_text, running, Done}
 use Rattle.mar_script.specs.Run.{LineDone, Run}
-use Rattle.mar_model_tests.proofs.SmallChain.{b1, f1, chain, config}
+use Rattle.mar_model_tests.proofs.SmallChain.{b0, b1, f1, chain, config}
 use Rattle.mar_model_tests.proofs.DeliveryRun.{fresh, making, none_failed, n2, n3, line, one_entry}
 use Rattle.mar_model_tests.proofs.DeliverySteps.{blocks_nested, blocks_written, both_blocks, certs_written, first_stays, one_certificate}
 use Rattle.mar_model_tests.proofs.SmallCutoffs.{zero_safe, finalizes}
 use Rattle.mar_model_tests.proofs.SmallEntries.{cached_of, reported}
 use Rattle.mar_model_tests.proofs.SmallFacts.{not_entered, same_kept}
-use Rattle.mar_model_tests.proofs.SmallSteps.{settled, settled_good, stores_nothing}
+use Rattle.mar_model_tests.proofs.SmallSteps.{passes_none, settled, settled_good, stores_nothing, two_held}
 
 -- after the second telling, the later sync, and the earlier one
 abbrev pub told_twice : Node
@@ -138,7 +138,7 @@ told = record {
   floor_stored = tt;
   query = λ is. cc;
   no_fault = refl;
-  beside = record { asks = refl; sends = refl; answers = refl; subscriptions = refl; certified = λ h c. refl; next_sync = refl; untouched = refl };
+  beside = record { more = []; asks = refl; passes = passes_none n2 (message_told None (report_finalization f1)) unticketed (inr (two_held unticketed b0 b1 f1 refl refl)); sends = refl; answers = refl; subscriptions = refl; certified = λ h c. refl; next_sync = refl; untouched = refl };
 }
 
 tells : LineDone config chain fresh (running n2) (tell_line (report_finalization f1)) (making nothing_made) (running told_twice)
@@ -146,13 +146,13 @@ tells = (_, record { unticketed = unticketed; advances = told; ticket = refl; re
 
 later : Advances config chain told_twice (sync_finished 1) (record nothing_made { reports = handed_over 1 b1 ∷ [] }) later_first
 later = stores_nothing chain told_twice (sync_finished 1) (record { no_effect = refl; no_storing = refl; untold = refl; no_query = refl; no_fault = refl; no_puts = λ after. refl; no_syncs = λ n. refl; no_tickets = refl; lowest = refl; still_lowest = refl; own_lowest = (0, lit< tt, refl) }) (handed_over 1 b1 ∷ []) n2.blocks.held n2.certs.held n2.meta
-    (record { in_order = (refl, refl, refl, tt); counted = refl; out = refl; below_barrier = (tt, tt) }) ((refl, refl), tt) first_stays (λ h v is. absurd cc) refl tt
+    (record { in_order = (refl, refl, refl, tt); counted = refl; out = refl; below_barrier = (tt, tt) }) ((refl, refl), tt) first_stays (λ h v is. absurd cc) refl tt (inl refl)
 
 laters : LineDone config chain fresh (running told_twice) (sync_line 1) (making (record nothing_made { reports = handed_over 1 b1 ∷ [] })) (running later_first)
 laters = (_, record { unticketed = later_first; advances = later; ticket = refl; rests = window_full refl; good = good_later }, refl, refl, refl)
 
 earlier : Advances config chain later_first (sync_finished 0) nothing_made both_finished
-earlier = stores_nothing chain later_first (sync_finished 0) (record { no_effect = refl; no_storing = refl; untold = refl; no_query = refl; no_fault = refl; no_puts = λ after. refl; no_syncs = λ n. refl; no_tickets = refl; lowest = refl; still_lowest = refl; own_lowest = (0, lit< tt, refl) }) [] later_first.blocks.sure later_first.certs.sure later_first.meta (record { in_order = tt; counted = refl; out = refl; below_barrier = tt }) tt (λ h v is. is) (λ h v is. is) refl tt
+earlier = stores_nothing chain later_first (sync_finished 0) (record { no_effect = refl; no_storing = refl; untold = refl; no_query = refl; no_fault = refl; no_puts = λ after. refl; no_syncs = λ n. refl; no_tickets = refl; lowest = refl; still_lowest = refl; own_lowest = (0, lit< tt, refl) }) [] later_first.blocks.sure later_first.certs.sure later_first.meta (record { in_order = tt; counted = refl; out = refl; below_barrier = tt }) tt (λ h v is. is) (λ h v is. is) refl tt (inl refl)
 
 earliers : LineDone config chain fresh (running later_first) (sync_line 0) (making nothing_made) (running both_finished)
 earliers = (_, record { unticketed = both_finished; advances = earlier; ticket = refl; rests = window_full refl; good = good_both }, refl, refl, refl)

@@ -110,7 +110,7 @@ caches_more before least made fault left some c = refuse (c.may.cached (verified
 
 -- one that asks for what the event would not, before it is cut
 asks_otherwise : (before : List Pair) (least : Option ℕ) (fault : Fault) (left : Ended) → CutsEvent config chain before least n3 (ack_given 0) (record nothing_made { asks = retain (above_height 1) ∷ [] }) fault left → ⊥
-asks_otherwise before least fault left c = apart _ _ c.asks.1
+asks_otherwise before least fault left c = ⊎_elim (λ front. apart _ _ front.1) (λ more. let no : false ≡ true = more.0 in absurd cc) c.asks
   where
     apart : (xs ys : List Call) → retain (above_height 0) ∷ xs ≡ retain (above_height 1) ∷ ys → ⊥
     apart xs ys e = let same : ◌≡◌ {A = ℕ} 0 1 = cc in omega arith

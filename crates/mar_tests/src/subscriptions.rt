@@ -1,7 +1,7 @@
 //! Subscriptions, over a buffer that promises and one that doesn't.
 use crate::light::{Plate, Plates, plate_at};
 use crate::tell::*;
-use mar_block::{Buffer, Recipients, Subscription};
+use mar_block::{Buffer, Finds, Recipients, Subscription};
 use mar_parts::{Key, Subscriptions};
 use mar_types::{Hasher, Participant, Round, Sha256, Sha256Digest};
 use std::alloc::{AllocError, Global};
@@ -22,14 +22,10 @@ impl Counting {
     }
 }
 
-impl Buffer<Plates> for Counting {
-    ghost use Rattle.std.specs.Prelude.{[], None};
+impl Finds<Plates> for Counting {
+    ghost use Rattle.std.specs.Prelude.{[]};
 
     ghost blocks = { λ _. [] };
-
-    ghost notifies = { λ b. b.promises };
-
-    ghost sent = { λ _. None };
 
     fn find_by_digest(&self, _digest: &Sha256Digest) -> Result<Option<Plate>, AllocError> {
         Ok(None)
@@ -38,6 +34,14 @@ impl Buffer<Plates> for Counting {
     fn find_by_commitment(&self, _commitment: &Sha256Digest) -> Result<Option<Plate>, AllocError> {
         Ok(None)
     }
+}
+
+impl Buffer<Plates> for Counting {
+    ghost use Rattle.std.specs.Prelude.{None};
+
+    ghost notifies = { λ b. b.promises };
+
+    ghost sent = { λ _. None };
 
     fn subscribe_by_digest(&self, digest: &Sha256Digest) -> Option<Subscription<Sha256Digest>> {
         self.count(1);

@@ -10,7 +10,7 @@ use Rattle.mar_model.proofs.Running.{Reached-read}
 use Rattle.mar_actor.proofs.notarize.keep_found.Goals as goal
 
 pub keep_notarized-kept-requires : goal.keep_notarized-kept-requires
-keep_notarized-kept-requires g c = record { small = found_small g.V.Variant.inner (g.B.Buffer.blocks c.args.buffer.now) (g.S.HoldsCache.held c.args.stores.now).cache.kept.held (g.S.HoldsCache.held c.args.stores.now).blocks.held (g.V.Commitment.Named.bytes c.args.commitment) _ c.requires.small_buffer c.requires.small_cached c.requires.small_held (sym (rw c.in-Ok-Some.field-0-is at c.in-Ok-Some.ensures.found)) }
+keep_notarized-kept-requires g c = record { small = found_small g.V.Variant.inner (g.B.Finds.blocks c.args.buffer.now) (g.S.HoldsCache.held c.args.stores.now).cache.kept.held (g.S.HoldsCache.held c.args.stores.now).blocks.held (g.V.Commitment.Named.bytes c.args.commitment) _ c.requires.small_buffer c.requires.small_cached c.requires.small_held (sym (rw c.in-Ok-Some.field-0-is at c.in-Ok-Some.ensures.found)) }
 
 pub returns-in-Ok-Some : goal.returns-in-Ok-Some
 returns-in-Ok-Some g c =

@@ -22,7 +22,7 @@ returns-in-Ok g c =
     let old = g.S.HoldsCache.held c.args.stores.now in
     let mid = g.S.HoldsCache.held c.keep_notarization-kept.new.stores in
     let f = g.S.Notarization.AsFinalization.plain c.args.notarization in
-    let blocks = g.B.Buffer.blocks c.args.buffer.now in
+    let blocks = g.B.Finds.blocks c.args.buffer.now in
     let whole = ap (λ h. h.intact) c.in-Ok.ensures.keeps.same ∙ c.requires.intact in
     let runs = rw (c.round-round.ensures, c.payload-commitment.ensures) at c.keep_found.ensures.runs in
     record {
@@ -37,7 +37,7 @@ pub returns-in-Err : goal.returns-in-Err
 returns-in-Err g c =
     let old = g.S.HoldsCache.held c.args.stores.now in
     let f = g.S.Notarization.AsFinalization.plain c.args.notarization in
-    let blocks = g.B.Buffer.blocks c.args.buffer.now in
+    let blocks = g.B.Finds.blocks c.args.buffer.now in
     record {
       runs = λ life standing heard. record {
         found = found_by g.V.Variant.inner blocks old (message_told None (report_notarization f));

@@ -16,7 +16,7 @@ returns-in_err-cache_finalization g c =
     let f = g.S.Finalization.AsFinalization.plain c.args.finalization.now in
     rw (p.1, p.2) (record {
       runs = λ standing sends answers. record {
-        found = found_by g.V.Variant.inner (g.B.Buffer.blocks c.args.buffer.now) (g.S.HoldsCache.held c.args.stores.now) (message_told None (report_finalization f));
+        found = found_by g.V.Variant.inner (g.B.Finds.blocks c.args.buffer.now) (g.S.HoldsCache.held c.args.stores.now) (message_told None (report_finalization f));
         finds = λ loaded. refl;
         runs = λ start whole rest reached. cached-failed g.V.Variant.inner start whole _ _ _ standing _ _ reached c.in_err-cache_finalization.ensures.goes_on c.in_err-cache_finalization.ensures.usual;
       };
@@ -40,7 +40,7 @@ returns g c =
     let f = g.S.Finalization.AsFinalization.plain c.args.finalization.now in
     let before = g.S.HoldsCache.held c.args.stores.now in
     let held = g.S.HoldsCache.held c.cache_finalization.new.self in
-    let blocks = g.B.Buffer.blocks c.args.buffer.now in
+    let blocks = g.B.Finds.blocks c.args.buffer.now in
     let intact = ap (λ h. h.intact) caches.same ∙ c.requires.intact in
     record {
       runs = λ standing sends answers. record {

@@ -17,10 +17,10 @@ returns-in-None g c =
     let f = g.S.Finalization.AsFinalization.plain c.args.finalization.now in
     let same = c.in_ok-block_at_hand.ensures.same in
     let found = rw (c.in-None.is, c.payload.ensures) at c.in_ok-block_at_hand.ensures.found in
-    record { runs = λ standing sends answers. Does-behind g.V.Variant.inner (fault_of g.V.Commitment.Named.bytes) _ _ held _ _ standing _ _ c.request.result (plan-absent held _ same f _ found) same c.in_ok-block_at_hand.ensures.goes_on (c.request.ensures.runs _ standing _ sends answers) }
+    record { runs = λ standing sends answers. Does-behind g.V.Variant.inner (fault_of g.V.Commitment.Named.bytes) _ _ held _ _ standing _ _ c.request.result (plan-absent (g.B.Finds.blocks c.args.buffer.now) held _ same f _ found) same c.in_ok-block_at_hand.ensures.goes_on (c.request.ensures.runs _ standing _ sends answers) }
 
 pub store_above-requires-clause-small_block : goal.store_above-requires-clause-small_block
-store_above-requires-clause-small_block g c = found_small g.V.Variant.inner (g.B.Buffer.blocks c.args.buffer.now) (g.S.HoldsCache.held c.args.stores.now).cache.kept.held (g.S.HoldsCache.held c.args.stores.now).blocks.held (g.S.Finalization.AsFinalization.plain c.args.finalization.now).payload _ c.requires.small_buffer c.requires.small_cached c.requires.small_held (sym (rw (c.in-Some.is, c.payload.ensures) at c.in_ok-block_at_hand.ensures.found))
+store_above-requires-clause-small_block g c = found_small g.V.Variant.inner (g.B.Finds.blocks c.args.buffer.now) (g.S.HoldsCache.held c.args.stores.now).cache.kept.held (g.S.HoldsCache.held c.args.stores.now).blocks.held (g.S.Finalization.AsFinalization.plain c.args.finalization.now).payload _ c.requires.small_buffer c.requires.small_cached c.requires.small_held (sym (rw (c.in-Some.is, c.payload.ensures) at c.in_ok-block_at_hand.ensures.found))
 
 pub returns-then-is_above : goal.returns-then-is_above
 returns-then-is_above g c =
@@ -28,7 +28,7 @@ returns-then-is_above g c =
     let f = g.S.Finalization.AsFinalization.plain c.args.finalization.now in
     let same = c.in_ok-block_at_hand.ensures.same in
     let found = rw (c.in-Some.is, c.payload.ensures) at c.in_ok-block_at_hand.ensures.found in
-    record { runs = λ standing sends answers. Does-behind g.V.Variant.inner (fault_of g.V.Commitment.Named.bytes) _ _ held _ _ standing _ _ c.store_above.result (plan-above held _ same f _ _ found (sym c.is_above.ensures ∙ c.if-is_above.true)) same c.in_ok-block_at_hand.ensures.goes_on (c.store_above.ensures.runs standing _ sends answers) }
+    record { runs = λ standing sends answers. Does-behind g.V.Variant.inner (fault_of g.V.Commitment.Named.bytes) _ _ held _ _ standing _ _ c.store_above.result (plan-above (g.B.Finds.blocks c.args.buffer.now) held _ same f _ _ found (sym c.is_above.ensures ∙ c.if-is_above.true)) same c.in_ok-block_at_hand.ensures.goes_on (c.store_above.ensures.runs standing sends answers) }
 
 pub returns-else-is_above : goal.returns-else-is_above
 returns-else-is_above g c =
@@ -36,4 +36,4 @@ returns-else-is_above g c =
     let f = g.S.Finalization.AsFinalization.plain c.args.finalization.now in
     let same = c.in_ok-block_at_hand.ensures.same in
     let found = rw (c.in-Some.is, c.payload.ensures) at c.in_ok-block_at_hand.ensures.found in
-    record { runs = λ standing sends answers. Does-behind g.V.Variant.inner (fault_of g.V.Commitment.Named.bytes) _ _ held _ _ standing _ _ c.take_note.result (plan-low held _ same f _ _ found (sym c.is_above.ensures ∙ c.if-is_above.false)) same c.in_ok-block_at_hand.ensures.goes_on (c.take_note.ensures.runs standing sends answers) }
+    record { runs = λ standing sends answers. Does-behind g.V.Variant.inner (fault_of g.V.Commitment.Named.bytes) _ _ held _ _ standing _ _ c.take_note.result (plan-low (g.B.Finds.blocks c.args.buffer.now) held _ same f _ _ found (sym c.is_above.ensures ∙ c.if-is_above.false)) same c.in_ok-block_at_hand.ensures.goes_on (c.take_note.ensures.runs standing sends answers) }

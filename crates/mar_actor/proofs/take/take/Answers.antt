@@ -23,7 +23,7 @@ same_ticket t u is = cc
 pub returns-in-Start : goal.returns-in-Start
 returns-in-Start g c =
     rw c.in-Start.is (record {
-      runs = rw (← c.life.view_is) (λ standing. found_nothing _ _ _ _ _ _ _ (c.start.ensures.runs _ _ _ _));
+      runs = rw (← c.life.view_is) (λ standing. found_nothing _ _ _ _ _ _ _ (c.start.ensures.runs _ _ _));
       given = rw (← c.life.view_is) (refl, refl);
       unanswered = unanswered-err _ c.start.result;
       sends = unsent-ok _ c.start.result;
@@ -110,7 +110,7 @@ returns-in-Asked g c =
     let sends_are = sendings_are g.V.Variant.plain c.args.event _ _ _ c.in-Message.is (c.told_by.ensures.sends g.V.Variant.plain) c.in-Asked.is in
     let firsts_are_so = firsts_are g.V.Variant.plain c.args.event _ _ _ c.in-Message.is (c.told_by.ensures.first g.V.Variant.plain) c.in-Asked.is in
     record {
-      runs = rw told_is (λ standing. found_nothing _ _ _ _ _ _ _ (asked g.V.Digest.Named.bytes c.in-Asked.ticket c.in-Asked.query g.V.Variant.inner fault (g.B.Buffer.blocks c.args.buffer.now) old new _ _ _ _ _ _ _ _ c.answer.result c.answer.ensures.answered unanswered c.answer.ensures.same c.answer.ensures.goes_on c.answer.ensures.read));
+      runs = rw told_is (λ standing. found_nothing _ _ _ _ _ _ _ (asked g.V.Digest.Named.bytes c.in-Asked.ticket c.in-Asked.query g.V.Variant.inner fault (g.B.Finds.blocks c.args.buffer.now) old new _ _ _ _ _ _ _ _ c.answer.result c.answer.ensures.answered unanswered c.answer.ensures.same c.answer.ensures.goes_on c.answer.ensures.read));
       given = rw (← c.life.view_is) (refl, refl);
       unanswered = c.answer.ensures.unanswered;
       sends = rw sends_are (unsent-ok _ c.answer.result);
@@ -119,7 +119,7 @@ returns-in-Asked g c =
       notifies = refl;
       buffer = rw sends_are (λ none. refl);
       idle = rw told_is (λ t is closed other. absurd cc);
-      notes = rw told_is (subst (λ found. OnOk c.answer.result ((tip : ℕ) → c.args.certified.now.min ≤ tip + 1 → TakesNote g.V.Commitment.Named.bytes tip found c.args.certified.now c.args.certified.now)) (sym (none_learned g.V.Digest.Named.bytes c.in-Asked.ticket g.V.Variant.inner old (g.B.Buffer.blocks c.args.buffer.now) c.in-Asked.query)) (unnoted g.V.Commitment.Named.bytes c.args.certified.now c.answer.result));
+      notes = rw told_is (subst (λ found. OnOk c.answer.result ((tip : ℕ) → c.args.certified.now.min ≤ tip + 1 → TakesNote g.V.Commitment.Named.bytes tip found c.args.certified.now c.args.certified.now)) (sym (none_learned g.V.Digest.Named.bytes c.in-Asked.ticket g.V.Variant.inner old (g.B.Finds.blocks c.args.buffer.now) c.in-Asked.query)) (unnoted g.V.Commitment.Named.bytes c.args.certified.now c.answer.result));
       min = still_least c.args.certified.now.min c.answer.result;
       unlearned = rw told_is (λ query. (refl, refl));
     }

@@ -1,0 +1,4 @@
+pub mod Walk
+pub mod Views
+pub mod Open
+pub mod Newest
