@@ -13,7 +13,7 @@ ghost use Rattle.mar_model.specs.Stored.{at_own_height, block_of, is_held, AreOw
 use crate::item::BlockItem;
 use crate::keeps::Keeps;
 use mar_block::Variant;
-use mar_store::{Lost, Miss, missing_items, next_gap};
+use mar_store::{Lost, Miss};
 use mar_types::Height;
 use std::alloc::{AllocError, Global};
 
@@ -60,7 +60,7 @@ pub trait Blocks<V: Variant>: Keeps<BlockItem<V>> {
     ) -> Result<Vec<Height>, AllocError>
         ensures { IfOk result (λ v. v.items ≡ missing_items (ranges (heights (Self.stored self.now).held)) start max) }
     {
-        missing_items(alloc, self.held_ranges().as_slice(), start, max)
+        self.held_ranges().missing_items(alloc, start, max)
     }
 
     /// The end of the range of held heights that holds this one, and the start of the next range after it.
@@ -68,7 +68,7 @@ pub trait Blocks<V: Variant>: Keeps<BlockItem<V>> {
         ensures end { result.0 ≡ range_end (ranges (heights (Self.stored self.now).held)) height }
         ensures start { result.1 ≡ next_start (ranges (heights (Self.stored self.now).held)) height }
     {
-        next_gap(self.held_ranges().as_slice(), height)
+        self.held_ranges().next_gap(height)
     }
 
     /// Whether a block is held at a height.

@@ -16,7 +16,7 @@ use crate::item::CertificateItem;
 use crate::keeps::Keeps;
 use mar_block::Variant;
 use mar_cert::AsFinalization;
-use mar_store::{HeightSpan, Lost, Miss, ranges_from};
+use mar_store::{HeightSpan, Lost, Miss};
 use mar_types::Height;
 
 /// Finalizations by the height of their block. `get`, `has` and `put` are counted, as are the calls of `Keeps`.
@@ -63,6 +63,6 @@ pub trait Certificates<V: Variant, F: AsFinalization>: Keeps<CertificateItem<V, 
     final fn ranges_from(&self, height: Height) -> &[HeightSpan]
         ensures { ranges_of result.now ≡ ranges_from (ranges (heights (Self.stored self.now).held)) height }
     {
-        ranges_from(self.held_ranges().as_slice(), height)
+        self.held_ranges().ranges_from(height)
     }
 }

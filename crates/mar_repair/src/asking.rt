@@ -21,7 +21,6 @@ use crate::wanted::{upper_height, wanted_parent};
 use mar_cert::{Finds, Variant};
 use mar_key::{Request, Resolver};
 use mar_model::{Fault, HoldsGaps, block_at_hand};
-use mar_store::missing_items;
 use mar_types::{Height, Named};
 use std::alloc::{AllocError, Global};
 
@@ -168,7 +167,7 @@ fn missing_heights<V: Variant, S: HoldsGaps<V>>(
         Some(_upper) => {
             let processed = stores.floor().processed_height().get();
             let from = Height::new(processed.saturating_add(1));
-            missing_items(alloc, stores.blocks_held().as_slice(), from, most)
+            stores.blocks_held().missing_items(alloc, from, most)
         }
     }
 }

@@ -76,7 +76,8 @@ where
     requires above { height_of (S.held stores.old).processed < height }
     ensures kept { OnOk result (OnlyStores (S.held stores.old) (S.held stores.new)) }
     ensures holds { OnOk result ((S.held stores.new).blocks.held ≡ with_found (S.held stores.old).blocks.held (of_height height
-        (look_up (search_of V.inner (B.blocks buffer.now) (S.held stores.old)) (S.held stores.old).blocks.held (S.Finalization.plain finalization.now).payload))) }
+        (look_up (search_of V.inner (B.blocks buffer.now) (S.held stores.old)) (S.held stores.old).blocks.held
+        (S.Finalization.plain finalization.now).payload))) }
     ensures runs { (life : Window) (standing : Standing) (told : Option (List Report))
         (sends : Option (List Sent)) (answers : List TicketAnswer)
         → DoesActs V.inner (fault_of V.Commitment.bytes) (certified_acts (at_height height (S.Finalization.plain finalization.now))

@@ -12,7 +12,6 @@ ghost use Rattle.mar_repair.specs.Views.{wanted_of};
 
 use mar_cert::{Finds, Variant};
 use mar_model::{Fault, HoldsGaps, block_at_hand};
-use mar_store::next_gap;
 use mar_types::{Height, Named};
 
 /// A block that is wanted.
@@ -31,7 +30,7 @@ pub(crate) fn upper_height<V: Variant, S: HoldsGaps<V>>(stores: &S) -> Option<u6
 {
     let processed = stores.floor().processed_height().get();
     let from = Height::new(processed.saturating_add(1));
-    match next_gap(stores.blocks_held().as_slice(), from).1 {
+    match stores.blocks_held().next_gap(from).1 {
         None => None,
         Some(height) => Some(height.get()),
     }

@@ -18,3 +18,4 @@ pub mod ChangedKeys
 pub mod Missing
 pub mod GapHeights
 pub mod MissingHeights
+pub mod Tails

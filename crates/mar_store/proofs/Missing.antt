@@ -1,15 +1,13 @@
 -- The missing heights, range by range.
-use Rattle.std.proofs.Common.{◌≡◌, ℕ, zero, suc, ◌+◌, ◌-◌, ◌<◌, ◌≤◌, List, [], ◌∷◌, ◌++◌, length, take, drop, min, max, get_or, Bool, true, false, cond, refl, ap, ◌∙◌, sym, arith, inl, inr, append_assoc}
-use Rattle.std.specs.Prelude.{find, nat_lt, None, Some}
+use Rattle.std.proofs.Common.{◌≡◌, ℕ, zero, suc, ◌+◌, ◌-◌, ◌<◌, ◌≤◌, List, [], ◌∷◌, ◌++◌, length, take, drop, min, max, get_or, refl, ap, ◌∙◌, sym, arith, inl, inr, append_assoc}
 use Rattle.std.specs.List.{range_with_len}
 use Rattle.std.proofs.lemmas.Bool.{cases_lt}
-use Rattle.std.proofs.lemmas.Bool.Decides.{nat_tests}
-use Rattle.std.proofs.lemmas.List.{drop-map, take_all}
+use Rattle.std.proofs.lemmas.List.{take_all}
 use Rattle.mar_store.specs.Ranges.{Range}
-use Rattle.mar_store.specs.Spans.{range_of, ranges_of}
+use Rattle.mar_store.specs.Spans.{ranges_of}
 use Rattle.mar_store.specs.declared.range_set.HeightSpan.{HeightSpan}
 use Rattle.mar_store.proofs.SpanEdits.{at_place}
-use Rattle.mar_store.specs.Gaps.{missing_from, numbers, ranges_from}
+use Rattle.mar_store.specs.Gaps.{missing_from, numbers}
 
 range_more : (a n m : ℕ) → range_with_len a (n + m) ≡ range_with_len a n ++ range_with_len (a + n) m
 range_more a zero m = ap (range_with_len a) (left m) ∙ ap (λ b. range_with_len b m) (right a)
@@ -44,7 +42,7 @@ numbers_one h = ap (range_with_len h) (one h)
     one : (b : ℕ) → (b + 1) - b ≡ 1
     one b = omega arith
 
-numbers_none : (from to : ℕ) → to ≤ from → numbers from to ≡ []
+pub numbers_none : (from to : ℕ) → to ≤ from → numbers from to ≡ []
 numbers_none from to le = ap (range_with_len from) (none from to le)
   where
     none : (a b : ℕ) → b ≤ a → b - a ≡ 0
@@ -121,7 +119,7 @@ take_short zero xs = omega arith
 take_short (suc n) [] = omega arith
 take_short (suc n) (x ∷ xs) = let shorter = take_short n xs in omega arith
 
--- ---- ranges from a height on
+-- ---- the rest of a list
 
 pub rest_whole : {X : Type 0} (k : ℕ) (xs : List X) → take (length xs - k) (drop k xs) ≡ drop k xs
 rest_whole zero xs = ap (λ n. take n xs) (all (length xs)) ∙ take_all (length xs) xs (same (length xs))
@@ -139,52 +137,3 @@ rest_whole (suc k) (x ∷ xs) = ap (λ n. take n (drop k xs)) (fewer (length xs)
   where
     fewer : (a b : ℕ) → suc a - suc b ≡ a - b
     fewer a b = omega arith
-
-pub skipped : (spans : List HeightSpan) (k h : ℕ) (span : HeightSpan) → k < length spans → span ≡ get_or spans k span → span.to < h → ranges_from (drop k (ranges_of spans)) h ≡ ranges_from (drop (k + 1) (ranges_of spans)) h
-skipped spans k h span lt is below = ap (λ rs. ranges_from rs h) (at_place spans k span lt is) ∙ past (range_of span) (drop (k + 1) (ranges_of spans)) below
-  where
-    past : (r : Range) (rs : List Range) → r.to < h → ranges_from (r ∷ rs) h ≡ ranges_from rs h
-    past r rs p = by (nat_lt r.to h) (test r.to h p)
-      where
-        test : (a b : ℕ) → a < b → nat_lt a b ≡ true
-        test a b q = grind (arith, nat_tests)
-
-        by : (b : Bool) → b ≡ true → cond b (ranges_from rs h) (r ∷ rs) ≡ ranges_from rs h
-        by true q = refl
-        by false q = absurd (clash q)
-          where
-            clash : false ≡ true → ⊥
-            clash e = cc
-
-pub reached : (spans : List HeightSpan) (k h : ℕ) (span : HeightSpan) → k < length spans → span ≡ get_or spans k span → h ≤ span.to → ranges_of (drop k spans) ≡ ranges_from (drop k (ranges_of spans)) h
-reached spans k h span lt is above = drop_ranges ∙ (at_place spans k span lt is ∙ (sym (stays (range_of span) (drop (k + 1) (ranges_of spans)) above) ∙ ap (λ rs. ranges_from rs h) (sym (at_place spans k span lt is))))
-  where
-    drop_ranges : ranges_of (drop k spans) ≡ drop k (ranges_of spans)
-    drop_ranges = sym (drop-map range_of k spans)
-
-    stays : (r : Range) (rs : List Range) → h ≤ r.to → ranges_from (r ∷ rs) h ≡ r ∷ rs
-    stays r rs p = by (nat_lt r.to h) (test r.to h p)
-      where
-        test : (a b : ℕ) → b ≤ a → nat_lt a b ≡ false
-        test a b q = grind (arith, nat_tests)
-
-        by : (b : Bool) → b ≡ false → cond b (ranges_from rs h) (r ∷ rs) ≡ r ∷ rs
-        by false q = refl
-        by true q = absurd (clash q)
-          where
-            clash : true ≡ false → ⊥
-            clash e = cc
-
--- ---- the first range that passes
-
-pub passed_at : (p : Range → Bool) (spans : List HeightSpan) (k : ℕ) (span : HeightSpan) (b : Bool) → k < length spans → span ≡ get_or spans k span → b ≡ p (range_of span) → b ≡ true → find p (drop k (ranges_of spans)) ≡ Some (range_of span)
-passed_at p spans k span b lt is tells set = ap (find p) (at_place spans k span lt is) ∙ ap (λ t. cond t (Some (range_of span)) (find p (drop (k + 1) (ranges_of spans)))) (sym tells ∙ set)
-
-pub failed_at : (p : Range → Bool) (spans : List HeightSpan) (k : ℕ) (span : HeightSpan) (b : Bool) → k < length spans → span ≡ get_or spans k span → b ≡ p (range_of span) → b ≡ false → find p (drop k (ranges_of spans)) ≡ find p (drop (k + 1) (ranges_of spans))
-failed_at p spans k span b lt is tells unset = ap (find p) (at_place spans k span lt is) ∙ ap (λ t. cond t (Some (range_of span)) (find p (drop (k + 1) (ranges_of spans)))) (sym tells ∙ unset)
-
-pub none_pass : (p : Range → Bool) (spans : List HeightSpan) (k : ℕ) → length spans ≤ k → find p (drop k (ranges_of spans)) ≡ None
-none_pass p [] zero past = refl
-none_pass p [] (suc k) past = refl
-none_pass p (x ∷ xs) zero past = absurd (omega arith)
-none_pass p (x ∷ xs) (suc k) past = none_pass p xs k (omega arith)

@@ -1,45 +1,27 @@
 -- Which heights spans that ascend have, as they are searched by halving.
-use Rattle.std.proofs.Common.{◌≡◌, ◌⊎◌, inl, inr, Contains, Some, is_some, if◌then◌else◌, ◌==◌, eqb-true, leb-true, slice_index_or, ℕ, zero, suc, ◌+◌, ◌<◌, ◌≤◌, List, [], ◌∷◌, length, get_or, drop, refl, sym, ◌∙◌, arith, Bool, true, false, ◌&&◌, ◌||◌, nat_le}
+use Rattle.std.proofs.Common.{◌≡◌, ◌⊎◌, inl, inr, Contains, Some, is_some, if◌then◌else◌, ◌==◌, eqb-true, leb-true, slice_index_or, ℕ, zero, suc, ◌+◌, ◌<◌, ◌≤◌, List, [], ◌∷◌, length, get_or, drop, refl, arith, Bool, true, false, ◌&&◌, ◌||◌, nat_le}
 use Rattle.std.proofs.lemmas.Bool.{both_ways}
 use Rattle.std.proofs.lemmas.List.Elements.{Contains-append_right}
 use Rattle.std.proofs.lemmas.Bool.Decides.{nat_tests}
 use Rattle.mar_store.specs.Kept.{At, has_height, value_at}
 use Rattle.mar_store.specs.Changes.{heights}
 use Rattle.mar_store.specs.Ranges.{Range, in_ranges, ranges}
-use Rattle.mar_store.specs.Spans.{range_of, ranges_of, AscendFrom, EndsFrom}
+use Rattle.mar_store.specs.Spans.{ranges_of, AscendFrom, EndsFrom}
 use Rattle.mar_store.specs.declared.range_set.HeightSpan.{HeightSpan}
 use Rattle.mar_store.proofs.RangeLemmas.{IsInRanges}
 use Rattle.mar_store.proofs.RangeMembers.{ranges-has, ranges-members}
-use Rattle.mar_store.proofs.SpanEdits.{at_place, low_there}
+use Rattle.mar_store.proofs.SpanEdits.{at_place}
 
--- a height above a range isn't in it
-above : (h : ℕ) (r : Range) (rs : List Range) → r.to < h → in_ranges (r ∷ rs) h ≡ in_ranges rs h
-above h r rs past = grind (arith, nat_tests)
-
--- nor is one below it, or in those behind it
+-- a height below ranges isn't in them
 below : (h low : ℕ) (rs : List Range) → AscendFrom low rs → h < low → in_ranges rs h ≡ false
 below h low [] ascend less = refl
 below h low (r ∷ rs) ascend less = let rest = below h (r.to + 2) rs ascend.2 (omega (arith, ascend.0, ascend.1, less)) in grind (arith, nat_tests, rest, ascend.0, less)
-
--- ranges that end below a height may be left out
-pub passed : (low h : ℕ) (xs : List HeightSpan) (i : ℕ) (x : HeightSpan) → i < length xs → x ≡ get_or xs i x → x.to < h → AscendFrom low (ranges_of xs) → in_ranges (drop (suc i) (ranges_of xs)) h ≡ in_ranges (ranges_of xs) h
-passed low h [] i x lt is past ascend = absurd (omega arith)
-passed low h (y ∷ ys) zero x lt is past ascend = sym (above h (range_of y) (ranges_of ys) (rw is at past))
-passed low h (y ∷ ys) (suc i) x lt is past ascend =
-    let higher = low_there (y.to + 2) ys i x (omega arith) is ascend.2 in
-    passed (y.to + 2) h ys i x (omega arith) is past ascend.2 ∙ sym (above h (range_of y) (ranges_of ys) (omega (arith, higher, past)))
 
 -- in the first range that ends at or above the height, or in none
 pub in_first : (low h : ℕ) (xs : List HeightSpan) (i : ℕ) (x : HeightSpan) → i < length xs → x ≡ get_or xs i x → AscendFrom low (ranges_of xs) → EndsFrom h (drop i (ranges_of xs)) → in_ranges (drop i (ranges_of xs)) h ≡ nat_le x.from h
 in_first low h [] i x lt is ascend ends = absurd (omega arith)
 in_first low h (y ∷ ys) zero x lt is ascend ends = rw is (let rest = below h (y.to + 2) (ranges_of ys) ascend.2 (omega (arith, ends)) in grind (arith, nat_tests, rest, ends))
 in_first low h (y ∷ ys) (suc i) x lt is ascend ends = in_first (y.to + 2) h ys i x (omega arith) is ascend.2 ends
-
-pub in_none : (h : ℕ) (xs : List HeightSpan) (i : ℕ) → length xs ≤ i → in_ranges (drop i (ranges_of xs)) h ≡ false
-in_none h [] zero most = refl
-in_none h [] (suc i) most = refl
-in_none h (x ∷ xs) zero most = absurd (omega arith)
-in_none h (x ∷ xs) (suc i) most = in_none h xs i (omega arith)
 
 pub ends_at : (xs : List HeightSpan) (i h : ℕ) (x : HeightSpan) → i < length xs → x ≡ get_or xs i x → h ≤ x.to → EndsFrom h (drop i (ranges_of xs))
 ends_at xs i h x lt is most = rw (at_place xs i x lt is) most

@@ -1,15 +1,30 @@
 //! What ranges of heights hold, and what is missing between them.
-ghost use Rattle.std.specs.Prelude.{◌≡◌, ◌<◌, ◌≤◌, ◌++◌, ◌&&◌, ◌-◌, ℕ, List, Contains, IfOk, OnOk, nat_le, nat_lt, vec_len, take};
+ghost use Rattle.std.specs.Prelude.{◌≡◌, ◌<◌, ◌≤◌, ◌++◌, ◌-◌, ℕ, List, Contains, IfOk, OnOk, drop, length, option_map, slice_get, vec_len, take};
 ghost use Rattle.mar_store.specs.Ranges.{ranges};
-ghost use Rattle.mar_store.specs.Spans.{ranges_of};
+ghost use Rattle.mar_store.specs.Spans.{ranges_of, AscendFrom};
 ghost use Rattle.mar_store.specs.Gaps.{AscendAbove, BeginsNext, EndsRun, IsMissing, missing_from, missing_items, next_start, numbers, range_end, ranges_from};
 
 use crate::HeightSpan;
+use crate::spans::place_from;
 use mar_types::Height;
 use std::alloc::{AllocError, Global};
 
-/// The lowest heights from `start` on that are missing below some span, at most `max`.
+/// The lowest heights from `start` on that are missing below some span, at most `max`. What it takes grows with these
+/// and with the digits of how many spans there are: the first span that tells is found by halving, and no two touch.
 pub fn missing_items(
+    alloc: Global,
+    spans: &[HeightSpan],
+    start: Height,
+    max: usize,
+) -> Result<Vec<Height>, AllocError>
+    requires { AscendFrom 0 (ranges_of spans.now) }
+    ensures { IfOk result (λ v. v.items ≡ missing_items (ranges_of spans.now) start max) }
+{
+    missing_below(alloc, ranges_from(spans, start), start, max)
+}
+
+// The same, of spans that are all walked over until there are `max`.
+fn missing_below(
     alloc: Global,
     spans: &[HeightSpan],
     start: Height,
@@ -20,6 +35,9 @@ pub fn missing_items(
     let mut missing = Vec::new(alloc);
     let mut next = start.get();
     for span in spans {
+        if missing.len() >= max {
+            return Ok(missing);
+        }
         push_below(&mut missing, next, start_of(*span), max)?;
         next = next.max(span.to.saturating_add(1));
     }
@@ -47,65 +65,40 @@ fn push_below(missing: &mut Vec<Height>, from: u64, to: u64, max: usize) -> Resu
     Ok(())
 }
 
-/// The end of the span that holds a height, and the start of the next span after it.
+/// The end of the span that holds a height, and the start of the next span after it. One search by halving finds both.
 pub fn next_gap(spans: &[HeightSpan], height: Height) -> (Option<Height>, Option<Height>)
+    requires { AscendFrom 0 (ranges_of spans.now) }
     ensures end { result.0 ≡ range_end (ranges_of spans.now) height }
     ensures start { result.1 ≡ next_start (ranges_of spans.now) height }
 {
-    (
-        end_of(spans, height.get()),
-        start_after(spans, height.get()),
-    )
-}
-
-// Whether a span holds a height.
-fn holds(span: HeightSpan, height: u64) -> bool
-    ensures { result ≡ (nat_le span.from height && nat_le height span.to) }
-{
-    span.from <= height && height <= span.to
-}
-
-// Whether a span begins above a height.
-fn begins_above(span: HeightSpan, height: u64) -> bool
-    ensures { result ≡ nat_lt height span.from }
-{
-    height < span.from
-}
-
-// The end of the span that holds a height.
-fn end_of(spans: &[HeightSpan], height: u64) -> Option<Height>
-    ensures { result ≡ range_end (ranges_of spans.now) height }
-{
-    for (place, span) in spans.iter().enumerate() {
-        if holds(*span, height) {
-            return Some(Height::new(span.to));
-        }
+    let place = place_from(spans, height.get());
+    if place >= spans.len() {
+        return (None, None);
     }
-    None
-}
-
-// The start of the first span that begins above a height.
-fn start_after(spans: &[HeightSpan], height: u64) -> Option<Height>
-    ensures { result ≡ next_start (ranges_of spans.now) height }
-{
-    for (place, span) in spans.iter().enumerate() {
-        if begins_above(*span, height) {
-            return Some(Height::new(span.from));
-        }
+    let span = spans[place];
+    if height.get() < span.from {
+        return (None, Some(Height::new(span.from)));
     }
-    None
+    (Some(Height::new(span.to)), start_at(spans, place + 1))
 }
 
-/// The spans that overlap or follow a height.
+// The first height of the span at a place.
+fn start_at(spans: &[HeightSpan], place: usize) -> Option<Height>
+    ensures { result ≡ option_map (λ s. s.from) (slice_get spans.now place) }
+{
+    match spans.get(place) {
+        Some(span) => Some(Height::new(span.from)),
+        None => None,
+    }
+}
+
+/// The spans that overlap or follow a height. The first of them is found by halving.
 pub fn ranges_from(spans: &[HeightSpan], height: Height) -> &[HeightSpan]
+    requires { AscendFrom 0 (ranges_of spans.now) }
     ensures { ranges_of result.now ≡ ranges_from (ranges_of spans.now) height }
 {
-    for (place, span) in spans.iter().enumerate() {
-        if span.to >= height.get() {
-            return &spans[place..];
-        }
-    }
-    &[]
+    let place = place_from(spans, height.get());
+    &spans[place..]
 }
 
 /// What the missing items and the ends and starts of ranges say of the heights that make the ranges: the missing ones

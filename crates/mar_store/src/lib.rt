@@ -27,7 +27,7 @@ pub use archive::{Archive, ArchiveRuin};
 pub use depot::{Depot, DepotRuin, EmptyStore};
 pub use entries::Entries;
 pub use entry::Entry;
-pub use gaps::{gap_laws, missing_items, next_gap, ranges_from};
+pub use gaps::gap_laws;
 pub use identifier::Identifier;
 pub use item::{Item, ItemKey, MAX_VALUE_SIZE};
 pub use lost::{Lost, Miss};

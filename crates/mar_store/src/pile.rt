@@ -265,7 +265,7 @@ impl<T: Item> Pile<T> {
     {
         match self.draft_cut(min) {
             Err(_) => Err(self),
-            Ok(draft) => Ok(self.keep(Choice::From(min), draft)),
+            Ok(draft) => Ok(self.keep(Choice::From(min), 0, draft)),
         }
     }
 
@@ -281,7 +281,7 @@ impl<T: Item> Pile<T> {
         let front = &self.items[..self.synced];
         let held = ranges_of(alloc, &self.items, choice)?;
         let sure = ranges_of(alloc, front, choice)?;
-        let synced = count_of(front, choice);
+        let synced = count_of(front, choice, 0);
         Ok(Draft { held, sure, synced })
     }
 
@@ -296,10 +296,10 @@ impl<T: Item> Pile<T> {
         if self.synced == self.items.as_slice().len() {
             return Ok(self);
         }
-        let choice = Choice::Lucky(self.synced, half);
+        let sure = self.synced;
         match self.draft_settled(half) {
             Err(_) => Err(self),
-            Ok(draft) => Ok(self.keep(choice, draft)),
+            Ok(draft) => Ok(self.keep(Choice::Lucky(sure, half), sure, draft)),
         }
     }
 
@@ -313,12 +313,14 @@ impl<T: Item> Pile<T> {
         let front = self.sure.try_clone()?;
         let held = ranges_from(front, &self.items, choice, self.synced)?;
         let sure = held.try_clone()?;
-        let synced = count_of(&self.items, choice);
+        let synced = count_of(&self.items, choice, self.synced);
         Ok(Draft { held, sure, synced })
     }
 
-    // Keeps the entries that stay, what stands beside them being drafted.
-    fn keep(self, choice: Choice, draft: Draft) -> Self
+    // Keeps the entries that stay, what stands beside them being drafted. Each of so many at the front stays.
+    fn keep(self, choice: Choice, from: usize, draft: Draft) -> Self
+        requires front { from ≤ length self.items.items }
+        requires stay { chosen (stays choice) 0 (take from self.items.items) ≡ take from self.items.items }
         requires within { draft.synced ≤ length (chosen (stays choice) 0 self.items.items) }
         requires held { draft.held ≡ ranges (heights (map seen (chosen (stays choice) 0 self.items.items))) }
         requires sure { draft.sure ≡ ranges (heights (take draft.synced (map seen (chosen (stays choice) 0 self.items.items)))) }
@@ -332,7 +334,7 @@ impl<T: Item> Pile<T> {
             ..
         } = self;
         let Draft { held, sure, synced } = draft;
-        take_out(&mut items, choice);
+        take_out(&mut items, choice, from);
         Pile {
             items,
             synced,
@@ -355,12 +357,14 @@ fn number_anew<T>(items: &mut Vec<Entry<T>>)
     }
 }
 
-// Takes out the entries that don't stay; the others keep their order.
-fn take_out<T: Drop>(items: &mut Vec<Entry<T>>, choice: Choice)
+// Takes out the entries that don't stay; the others keep their order. Each of so many at the front stays.
+fn take_out<T: Drop>(items: &mut Vec<Entry<T>>, choice: Choice, from: usize)
+    requires within { from ≤ vec_len items.old }
+    requires stay { chosen (stays choice) 0 (take from items.old.items) ≡ take from items.old.items }
     ensures { items.new.items ≡ chosen (stays choice) 0 items.old.items }
 {
-    let mut kept = 0;
-    let mut place = 0;
+    let mut kept = from;
+    let mut place = from;
     while place < items.len() {
         if choice.keeps(place, items[place].index) {
             items.swap(kept, place);

@@ -2,10 +2,13 @@
 ghost use Rattle.std.specs.Prelude.{◌≡◌, ◌+◌, ◌<◌, ◌≤◌, ◌++◌, ◌↔◌, ℕ, [], take, drop, fold, map, IfOk, OnOk, OnErr, IsTrue, vec_len, length};
 ghost use Rattle.mar_store.specs.Changes.{heights};
 ghost use Rattle.mar_store.specs.Entries.{seen};
+ghost use Rattle.mar_store.specs.Gaps.{missing_items, next_start, range_end, ranges_from};
 ghost use Rattle.mar_store.specs.Ranges.{in_ranges, last_end, with_height};
 
 use crate::entry::Entry;
+use crate::gaps::{missing_items, next_gap, ranges_from};
 use crate::spans::{has_height, last_of, place_of, widen, widen_by};
+use mar_types::Height;
 use std::alloc::{AllocError, Global};
 use std::marker::Model;
 
@@ -74,6 +77,34 @@ impl RangeSet {
         ensures { result ≡ in_ranges self.now height }
     {
         has_height(&self.spans, height)
+    }
+
+    /// The ranges that overlap or follow a height. The first of them is found by halving.
+    pub fn ranges_from(&self, height: Height) -> &[HeightSpan]
+        ensures { ranges_of result.now ≡ ranges_from self.now height }
+    {
+        ranges_from(&self.spans, height)
+    }
+
+    /// The lowest heights from `start` on that are missing below some range, at most `max`. What it takes grows with
+    /// these, and with the digits of how many ranges there are.
+    pub fn missing_items(
+        &self,
+        alloc: Global,
+        start: Height,
+        max: usize,
+    ) -> Result<Vec<Height>, AllocError>
+        ensures { IfOk result (λ v. v.items ≡ missing_items self.now start max) }
+    {
+        missing_items(alloc, &self.spans, start, max)
+    }
+
+    /// The end of the range that holds a height, and the start of the next range after it, found by halving.
+    pub fn next_gap(&self, height: Height) -> (Option<Height>, Option<Height>)
+        ensures end { result.0 ≡ range_end self.now height }
+        ensures start { result.1 ≡ next_start self.now height }
+    {
+        next_gap(&self.spans, height)
     }
 
     /// Another set of the same heights.

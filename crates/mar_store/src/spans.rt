@@ -2,6 +2,7 @@
 ghost use Rattle.std.specs.Prelude.{◌≡◌, ◌+◌, ◌++◌, ◌<◌, ◌≤◌, ◌↔◌, take, drop, fold, length, map, vec_capacity, vec_len, IsTrue, OnOk, OnErr};
 ghost use Rattle.mar_store.specs.Changes.{heights};
 ghost use Rattle.mar_store.specs.Entries.{seen};
+ghost use Rattle.mar_store.specs.Gaps.{ranges_from};
 ghost use Rattle.mar_store.specs.Ranges.{in_ranges, last_end, with_height};
 ghost use Rattle.mar_store.specs.Spans.{ranges_of, AscendFrom, AreOrdered, IsReached, IsAlone, IsFollowed, BeginsAfter};
 
@@ -47,10 +48,11 @@ pub fn place_of(spans: &[HeightSpan], height: u64) -> usize
     low
 }
 
-/// Whether a span has the height. The first that doesn't end below it is found by halving.
-pub fn has_height(spans: &[HeightSpan], height: u64) -> bool
+/// The place of the first span that doesn't end below the height, found by halving.
+pub fn place_from(spans: &[HeightSpan], height: u64) -> usize
     requires { AscendFrom 0 (ranges_of spans.now) }
-    ensures { result ≡ in_ranges (ranges_of spans.now) height }
+    ensures within { result ≤ length spans.now }
+    ensures rest { drop result (ranges_of spans.now) ≡ ranges_from (ranges_of spans.now) height }
 {
     let mut low = 0;
     let mut high = spans.len();
@@ -62,7 +64,16 @@ pub fn has_height(spans: &[HeightSpan], height: u64) -> bool
             high = middle;
         }
     }
-    low < spans.len() && spans[low].from <= height
+    low
+}
+
+/// Whether a span has the height.
+pub fn has_height(spans: &[HeightSpan], height: u64) -> bool
+    requires { AscendFrom 0 (ranges_of spans.now) }
+    ensures { result ≡ in_ranges (ranges_of spans.now) height }
+{
+    let place = place_from(spans, height);
+    place < spans.len() && spans[place].from <= height
 }
 
 /// Adds the indexes of entries: all of them, or none where memory runs out. Room is made before the first.

@@ -47,12 +47,14 @@ pub fn ranges_from<T>(
     Ok(ranges)
 }
 
-/// How many entries stay.
-pub fn count_of<T>(items: &[Entry<T>], choice: Choice) -> usize
+/// How many entries stay, where each of so many at the front does.
+pub fn count_of<T>(items: &[Entry<T>], choice: Choice, from: usize) -> usize
+    requires within { from ≤ length items.now }
+    requires stay { chosen (stays choice) 0 (take from items.now) ≡ take from items.now }
     ensures { result ≡ length (chosen (stays choice) 0 items.now) }
 {
-    let mut count = 0;
-    let mut place = 0;
+    let mut count = from;
+    let mut place = from;
     while place < items.len() {
         count += one_if(choice.keeps(place, items[place].index));
         place += 1;

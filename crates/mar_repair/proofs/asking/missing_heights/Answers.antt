@@ -17,4 +17,4 @@ returns-in-Some g c =
     λ whole.
     let above = start_after (ranges (heights held.blocks.held)) (height_of held.processed + 1) c.in-Some._upper (sym (rw c.in-Some.is at c.upper_height.ensures whole)) in
     let from : c.new-from.result ≡ height_of held.processed + 1 = omega (arith, above, processed, c.new-from.ensures, c.saturating_add.ensures) in
-    rw (← from, ← (c.as_slice.ensures ∙ c.blocks_held.ensures whole)) c.missing_items.ensures
+    rw (← from, ← (c.blocks_held.ensures whole)) c.missing_items.ensures

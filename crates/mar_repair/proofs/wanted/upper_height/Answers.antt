@@ -11,7 +11,7 @@ returns-in-None g c =
     let held = g.S.HoldsCache.held c.args.stores.now in
     let processed = c.get-processed.ensures.value ∙ (c.processed_height.ensures ∙ ap height_of c.floor.ensures.processed) in
     λ whole. next_after (ranges (heights held.blocks.held)) (2 ^ 64 - 1) (height_of held.processed) c.new-from.result None
-    (rw c.in-None.is at c.next_gap.ensures.start ∙ ap (λ rs. next_start rs c.new-from.result) (c.as_slice.ensures ∙ c.blocks_held.ensures whole))
+    (rw c.in-None.is at c.next_gap.ensures.start ∙ ap (λ rs. next_start rs c.new-from.result) (c.blocks_held.ensures whole))
     (omega (arith, processed, c.new-from.ensures, c.saturating_add.ensures)) (omega (arith, processed, c.get-processed.ensures.fits)) tt
 
 pub returns-in-Some : goal.returns-in-Some
@@ -19,5 +19,5 @@ returns-in-Some g c =
     let held = g.S.HoldsCache.held c.args.stores.now in
     let processed = c.get-processed.ensures.value ∙ (c.processed_height.ensures ∙ ap height_of c.floor.ensures.processed) in
     λ whole. rw c.get.ensures.value (next_after (ranges (heights held.blocks.held)) (2 ^ 64 - 1) (height_of held.processed) c.new-from.result _
-    (rw c.in-Some.is at c.next_gap.ensures.start ∙ ap (λ rs. next_start rs c.new-from.result) (c.as_slice.ensures ∙ c.blocks_held.ensures whole))
+    (rw c.in-Some.is at c.next_gap.ensures.start ∙ ap (λ rs. next_start rs c.new-from.result) (c.blocks_held.ensures whole))
     (omega (arith, processed, c.new-from.ensures, c.saturating_add.ensures)) (omega (arith, processed, c.get-processed.ensures.fits)) (omega (arith, c.get.ensures.value, c.get.ensures.fits)))

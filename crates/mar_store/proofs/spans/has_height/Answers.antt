@@ -1,37 +1,24 @@
-use Rattle.std.proofs.Common.{◌≡◌, ◌∙◌, sym, arith, add-one, ◌+◌, ◌-◌, ◌/◌, ◌<◌, ℕ, length, drop, subst}
+use Rattle.std.proofs.Common.{◌≡◌, ◌≤◌, ◌∙◌, ℕ, ap, arith, false, length, nat_lt, sym, subst}
+use Rattle.std.proofs.lemmas.Bool.Decides.{nat_tests}
 use Rattle.std.proofs.lemmas.List.{get_or_default}
-use Rattle.mar_store.specs.Spans.{ranges_of, EndsFrom}
-use Rattle.mar_store.proofs.SpanMembers.{ends_at, in_first, passed}
+use Rattle.mar_store.specs.Ranges.{in_ranges}
+use Rattle.mar_store.specs.Spans.{EndsFrom, ranges_of}
+use Rattle.mar_store.proofs.SpanMembers.{in_first}
+use Rattle.mar_store.proofs.Tails.{dropped, ends, held}
 use Rattle.mar_store.proofs.spans.has_height.Goals as goal
 
--- the middle of two places lies between them
-middle_below : (low high : ℕ) → low < high → low + (high - low) / 2 < high
-middle_below low high less = omega arith
+past : (a b : ℕ) → b ≤ a → nat_lt a b ≡ false
+past a b above = grind (arith, nat_tests)
 
-pub halves-preserved-then-spans-middle : goal.halves-preserved-then-spans-middle
-halves-preserved-then-spans-middle c =
-    let below = middle_below c.halves.low c.halves.high c.halves-test.true in
-    let there : c.halves.low + (c.halves.high - c.halves.low) / 2 < length c.args.spans.now = omega (arith, below, c.halves.invariant.within) in
-    record {
-      between = omega (arith, below);
-      within = c.halves.invariant.within;
-      ends = c.halves.invariant.ends;
-      same = rw add-one (passed 0 c.args.height c.args.spans.now (c.halves.low + (c.halves.high - c.halves.low) / 2) _ there (get_or_default c.args.spans.now (c.halves.low + (c.halves.high - c.halves.low) / 2) (record { from = 0; to = 0 }) _ there) c.if-spans-middle.true c.requires);
-    }
+pub returns-then-place-spans : goal.returns-then-place-spans
+returns-then-place-spans c =
+    let is = get_or_default c.args.spans.now c.place_from-place.result (record { from = 0; to = 0 }) _ c.if-place-spans.true in
+    sym (in_first 0 c.args.height c.args.spans.now c.place_from-place.result _ c.if-place-spans.true is c.requires (subst (EndsFrom c.args.height) (sym c.place_from-place.ensures.rest) (ends c.args.height (ranges_of c.args.spans.now))))
+    ∙ (ap (λ rs. in_ranges rs c.args.height) c.place_from-place.ensures.rest ∙ held c.args.height (ranges_of c.args.spans.now))
 
-pub halves-preserved : goal.halves-preserved
-halves-preserved c =
-    let below = middle_below c.halves.low c.halves.high c.halves-test.true in
-    let there : c.halves.low + (c.halves.high - c.halves.low) / 2 < length c.args.spans.now = omega (arith, below, c.halves.invariant.within) in
-    record {
-      between = omega arith;
-      within = omega (arith, there);
-      ends = ends_at c.args.spans.now (c.halves.low + (c.halves.high - c.halves.low) / 2) c.args.height _ there (get_or_default c.args.spans.now (c.halves.low + (c.halves.high - c.halves.low) / 2) (record { from = 0; to = 0 }) _ there) c.if-spans-middle.false;
-      same = c.halves.invariant.same;
-    }
-
-pub returns-then-low-spans : goal.returns-then-low-spans
-returns-then-low-spans c =
-    let is = get_or_default c.args.spans.now c.halves.low (record { from = 0; to = 0 }) _ c.if-low-spans.true in
-    let met : c.halves.high ≡ c.halves.low = omega (arith, c.halves.invariant.between, c.halves-test.false) in
-    sym (in_first 0 c.args.height c.args.spans.now c.halves.low _ c.if-low-spans.true is c.requires (subst (λ k. EndsFrom c.args.height (drop k (ranges_of c.args.spans.now))) met c.halves.invariant.ends)) ∙ c.halves.invariant.same
+pub returns-else-place-spans : goal.returns-else-place-spans
+returns-else-place-spans c =
+    let over : length c.args.spans.now ≤ c.place_from-place.result = omega (arith, c.if-place-spans.false) in
+    past c.place_from-place.result (length c.args.spans.now) over
+    ∙ (sym (ap (λ rs. in_ranges rs c.args.height) (dropped c.args.spans.now c.place_from-place.result over))
+    ∙ (ap (λ rs. in_ranges rs c.args.height) c.place_from-place.ensures.rest ∙ held c.args.height (ranges_of c.args.spans.now)))

@@ -2,7 +2,7 @@ use Rattle.std.proofs.Common.{drop, length, ◌-◌, ◌^◌, ◌≤◌}
 use Rattle.mar_store.specs.Spans.{ranges_of}
 use Rattle.mar_store.specs.Gaps.{missing_from}
 use Rattle.mar_store.proofs.Missing.{Gathered}
-use Rattle.mar_store.proofs.gaps.missing_items.Given as goal
+use Rattle.mar_store.proofs.gaps.missing_below.Given as goal
 
 abbrev pub invariant-loop-span : goal.invariant-loop-span
 invariant-loop-span l = record {
