@@ -30,10 +30,9 @@ use Rattle.mar_model.proofs.CachePrunes.{IsCacheOf-pruned, PrunesCacheBy-beside,
 use Rattle.mar_model.proofs.Cutting.{MayBeLeft, keeps_heights}
 use Rattle.mar_model.proofs.FloorSafety.{FloorSafe-after, next_after-is}
 use Rattle.mar_model.proofs.OutstandingLemmas.{ConsecutiveFrom-after_given, ConsecutiveFrom-with_mark, all_sure-drained, all_sure-kept, first_unprocessed-rises}
-use Rattle.mar_model.proofs.Growing.{Grown-same}
-use Rattle.mar_model.proofs.PlainEvents.{Certificates-same, EntersAt-same, KeepsFrom-same, Writes-same, nothing_put}
-use Rattle.mar_model.proofs.Reaching.{Reaches}
-use Rattle.mar_model.proofs.Soundness.{HasAnchor-acked_to, IsFrom, IsSafePair-kept, own_pair_safe}
+use Rattle.mar_model.proofs.PlainEvents.{Certificates-same, EntersAt-same, Writes-same}
+use Rattle.mar_model.proofs.Reaching.{PutsOwn-same, Reaches}
+use Rattle.mar_model.proofs.Soundness.{HasAnchor-acked_to, IsSafePair-kept, from_none, own_pair_safe}
 
 -- MARKS
 
@@ -185,40 +184,36 @@ module _ {P E : Type 0} (config : Config) (chain : Chain) (lawful : IsLawful con
   -- and the event reached it, where the oldest that stays wasn't dropped
   Reaches-drained : prunes ≡ (witnessing_of config n (ack_marked t as_mark) no_floor).prunes → (now : Held) → PrunesCacheBy prunes a.held now → dropped_oldest (after_given marked.life.out) ≡ None → Reaches config chain a (ack_marked t as_mark) buffer waiting [] (drained_to own_pairs now)
   Reaches-drained prunes_own now pruned not_dropped = record {
-    no_effect = refl;
-    kept = refl;
-    next_ack = refl;
-    next_sync = refl;
-    sizes = refl;
-    processed = refl;
-    cutoff = cutoff-is;
-    blocks = KeepsFrom-same _ a.held.blocks;
-    certs = KeepsFrom-same _ a.held.certs;
-    put_blocks = [];
-    put_certs = [];
-    blocks_grown = Grown-same a.held.blocks a.held.blocks nested refl;
-    certs_grown = Grown-same a.held.certs a.held.certs certs_nested refl;
-    of_blocks = tt;
-    of_certs = tt;
-    own_blocks = λ x has. nothing_put x has;
-    own_certs = λ x has. nothing_put x has;
-    certificates = Certificates-same a (drained_to own_pairs now) (ack_marked t as_mark) buffer waiting refl;
-    writes = (Writes-same a (drained_to own_pairs now) (ack_marked t as_mark) buffer waiting refl refl refl (λ syncs. refl) (λ syncs. refl)).0;
+    comes = record {
+      no_part = record {
+        no_effect = refl;
+        no_query = refl;
+        no_fault = dropped_first-none (after_given marked.life.out) not_dropped;
+        sends = refl;
+        answers = λ lowest. refl;
+        subscriptions = refl;
+        no_syncs = λ n'. refl;
+      };
+      kept = refl;
+      next_ack = refl;
+      next_sync = refl;
+      sizes = refl;
+      processed = refl;
+      cutoff = cutoff-is;
+      blocks = PutsOwn-same _ _ _ a.held.blocks a.held.blocks nested refl;
+      certs = PutsOwn-same _ _ _ a.held.certs a.held.certs certs_nested refl;
+      certificates = Certificates-same a (drained_to own_pairs now) (ack_marked t as_mark) buffer waiting refl;
+      writes = (Writes-same a (drained_to own_pairs now) (ack_marked t as_mark) buffer waiting refl refl refl (λ syncs. refl) (λ syncs. refl)).0;
+      are_tips = tt;
+      tips_rise = refl;
+      tips_chain = tt;
+      cache = moves_pruned config chain a (drained_to own_pairs now) (ack_marked t as_mark) buffer waiting refl refl refl refl cached.own_lowest prunes loaded prunes_own witnessed-is (PrunesCacheBy-beside prunes a.held now (drained_to own_pairs now).held refl refl refl pruned);
+      stored = tt;
+      stored_late = tt;
+    };
     no_repair = (Writes-same a (drained_to own_pairs now) (ack_marked t as_mark) buffer waiting refl refl refl (λ syncs. refl) (λ syncs. refl)).1;
     unblocked = (Writes-same a (drained_to own_pairs now) (ack_marked t as_mark) buffer waiting refl refl refl (λ syncs. refl) (λ syncs. refl)).2;
     enters = EntersAt-same _ (node_of a buffer waiting) (node_of (drained_to own_pairs now) buffer waiting) refl refl;
-    are_tips = tt;
-    tips_rise = refl;
-    tips_chain = tt;
-    cache = moves_pruned config chain a (drained_to own_pairs now) (ack_marked t as_mark) buffer waiting refl refl refl refl cached.own_lowest prunes loaded prunes_own witnessed-is (PrunesCacheBy-beside prunes a.held now (drained_to own_pairs now).held refl refl refl pruned);
-    stored = tt;
-    stored_late = tt;
-    no_query = refl;
-    no_fault = dropped_first-none (after_given marked.life.out) not_dropped;
-    sends = refl;
-    answers = λ lowest. refl;
-    subscriptions = refl;
-    no_syncs = λ n'. refl;
   }
 
   module _ (is_drained : Bool) (b : Seen P E) (drains : Drains config.epochs marked is_drained b) where
@@ -265,12 +260,8 @@ module _ {P E : Type 0} (config : Config) (chain : Chain) (lawful : IsLawful con
     MayBeLeft-drained sure keeps p (suc k, lt, is) = absurd (omega arith)
     MayBeLeft-drained sure keeps p (zero, lt, is) = subst (MayBeLeft config chain a (ack_marked t as_mark) buffer waiting sure) is (inr (pair_after-is, kept, NotBelow-drained))
       where
-        from : (o : Option ℕ) → IsFrom 0 o
-        from None = tt
-        from (Some h) = omega arith
-
         kept : IsSafePair chain sure (pair_of b.held.processed b.held.cutoff)
-        kept = IsSafePair-kept chain 0 a.held.blocks.sure sure (pair_of b.held.processed b.held.cutoff) (λ h low there. keeps_heights a.held.blocks.sure sure keeps h there) (from (option_map height_in b.held.processed)) pair_after-safe
+        kept = IsSafePair-kept chain 0 a.held.blocks.sure sure (pair_of b.held.processed b.held.cutoff) (λ h low there. keeps_heights a.held.blocks.sure sure keeps h there) (from_none (option_map height_in b.held.processed)) pair_after-safe
 
   -- WHERE NOTHING WAS DRAINED
 

@@ -20,7 +20,7 @@ use Rattle.mar_model.specs.Promise.{Heard}
 use Rattle.mar_model.specs.Queries.{answers_found, value_found}
 use Rattle.mar_model.specs.Stored.{newest}
 use Rattle.mar_model.specs.Acts.{Act, AreLawful, IsDone, KeepAct, ask, caches, finish_kept, keep_certified, keep_notarization, keep_verified, keeps_for, load_cache, mark, note, process, progresses, put_finalization, reply, says, send, start_sync, store, stores, sync_progress, sync_writes, tell}
-use Rattle.mar_model.specs.Plans.{Found, RunsPlan, ack_plan, answer_plan, drain_plan, final_plan, keep_plan, late_plan, newest_plan, oldest_plan, plan_of, sent_block, settle_plan, sync_plan}
+use Rattle.mar_model.specs.Plans.{Found, RunsPlan, ack_plan, answer_plan, drain_plan, final_plan, hint_plan, keep_plan, late_plan, newest_plan, oldest_plan, plan_of, sent_block, settle_plan, sync_plan}
 use Rattle.mar_model.specs.Ran.{DoesTask, Runs, RunsActs, Task, dispatches, does, ends, repairs}
 use Rattle.mar_model.proofs.Acting.{IsPassAct, ran-passes}
 use Rattle.mar_model.specs.Scene.{Scene, scene, window_of}
@@ -61,11 +61,7 @@ act_unanswered : (inner : List ℕ → List ℕ) (a : Act) (s t : Scene) → IsP
 act_unanswered inner (stores a) s t is (done, joins, law, same) = ap (λ (y : Scene). y.heard.answers) same
 act_unanswered inner (says (tell r h d)) s t is (heard, same) = ap (λ (y : Scene). y.heard.answers) same
 act_unanswered inner (says (ask calls)) s t is (heard, same) = ap (λ (y : Scene). y.heard.answers) same
-act_unanswered inner (says (send x)) s t is did = absurd is
-act_unanswered inner (says (reply a)) s t is did = absurd is
-act_unanswered inner (caches a) s t is did = absurd is
-act_unanswered inner (keeps_for a) s t is did = absurd is
-act_unanswered inner (progresses a) s t is did = absurd is
+act_unanswered inner _ s t is did = absurd is
 
 row_unanswered : (inner : List ℕ → List ℕ) (acts : List Act) (s t : Scene) → AllByRecursion IsPassAct acts → RunsActs inner s acts t → t.heard.answers ≡ s.heard.answers
 row_unanswered inner [] s t are reads = ap (λ (y : Scene). y.heard.answers) reads.same
@@ -191,7 +187,7 @@ module _ {P E : Type 0} (life : Remembered P E) (inner : List ℕ → List ℕ) 
   answered-message (Some k) get_processed runs in_cache = Runs-answers inner (map (to k) (option_to_list (value_found inner s.held buffer get_processed))) s t runs
   answered-message (Some k) get_anchor runs in_cache = Runs-answers inner (map (to k) (option_to_list (value_found inner s.held buffer get_anchor))) s t runs
   answered-message (Some k) (get_verified r) runs in_cache = Runs-answers inner (map (to k) (option_to_list (value_found inner s.held buffer (get_verified r)))) s t runs
-  answered-message (Some k) (hint_finalized h ps) runs in_cache = Runs-answers inner (map (to k) (option_to_list (value_found inner s.held buffer (hint_finalized h ps)))) s t runs
+  answered-message (Some k) (hint_finalized h ps) runs in_cache = nobody (hint_plan s.held h ps) tt runs
   answered-message (Some k) (set_floor f) runs in_cache = Runs-answers inner (map (to k) (option_to_list (value_found inner s.held buffer (set_floor f)))) s t runs
   answered-message (Some k) (prune_below h) runs in_cache = Runs-answers inner (map (to k) (option_to_list (value_found inner s.held buffer (prune_below h)))) s t runs
   answered-message (Some k) (hint_notarized r c) runs in_cache = Runs-answers inner (map (to k) (option_to_list (value_found inner s.held buffer (hint_notarized r c)))) s t runs
@@ -206,7 +202,7 @@ module _ {P E : Type 0} (life : Remembered P E) (inner : List ℕ → List ℕ) 
   answered-message None get_processed runs in_cache = nobody [] tt runs
   answered-message None get_anchor runs in_cache = nobody [] tt runs
   answered-message None (get_verified r) runs in_cache = nobody [] tt runs
-  answered-message None (hint_finalized h ps) runs in_cache = nobody [] tt runs
+  answered-message None (hint_finalized h ps) runs in_cache = nobody (hint_plan s.held h ps) tt runs
   answered-message None (set_floor f) runs in_cache = nobody [] tt runs
   answered-message None (prune_below h) runs in_cache = nobody [] tt runs
   answered-message None (hint_notarized r c) runs in_cache = nobody [] tt runs

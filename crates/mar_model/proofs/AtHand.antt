@@ -1,6 +1,7 @@
 -- A block at hand has the commitment that was looked up, and is the chain's where the blocks agree with the chain.
 use Rattle.std.proofs.Common.{◌≡◌, ℕ, List, [], ◌∷◌, ◌++◌, Bool, true, false, if◌then◌else◌, Option, Some, None, option_map, slice_get, bytes_eq, find, refl, ◌∙◌, ap, subst}
 use Rattle.std.specs.List.{AllByRecursion, filter_map}
+use Rattle.std.proofs.lemmas.Option.{same_Some}
 use Rattle.std.proofs.lemmas.Slice.Eq.{bytes_eq-Decides}
 use Rattle.mar_types.specs.Round.{Round}
 use Rattle.mar_types.specs.Epochs.{Epochs}
@@ -16,22 +17,16 @@ pub find-passes : {T : Type 0} (test : T → Bool) (xs : List T) (x : T) → fin
 find-passes test [] x e = absurd cc
 find-passes {T = T} test (y ∷ ys) x e = by (test y) refl e (find-passes test ys x)
   where
-    inside : ◌≡◌ {A = Option T} (Some y) (Some x) → y ≡ x
-    inside p = cc
-
     by : (b : Bool) → test y ≡ b → (if b then Some y else find test ys) ≡ Some x → (find test ys ≡ Some x → test x ≡ true) → test x ≡ true
-    by true is p others = subst (λ z. test z ≡ true) (inside p) is
+    by true is p others = subst (λ z. test z ≡ true) (same_Some y x p) is
     by false is p others = others p
 
 pub AllByRecursion-find : {T : Type 0} (P : T → Type 0) (test : T → Bool) (xs : List T) (x : T) → AllByRecursion P xs → find test xs ≡ Some x → P x
 AllByRecursion-find P test [] x all e = absurd cc
 AllByRecursion-find {T = T} P test (y ∷ ys) x all e = by (test y) e (AllByRecursion-find P test ys x all.1)
   where
-    inside : ◌≡◌ {A = Option T} (Some y) (Some x) → y ≡ x
-    inside p = cc
-
     by : (b : Bool) → (if b then Some y else find test ys) ≡ Some x → (find test ys ≡ Some x → P x) → P x
-    by true p others = subst P (inside p) all.0
+    by true p others = subst P (same_Some y x p) all.0
     by false p others = others p
 
 pub bytes_same : (xs ys : List ℕ) → bytes_eq xs ys ≡ true → xs ≡ ys

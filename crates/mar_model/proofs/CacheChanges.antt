@@ -1,6 +1,7 @@
 -- What a change of the cache of a life leaves, since some start.
 use Rattle.std.proofs.Common.{◌≡◌, ◌⊎◌, inl, inr, map, ⊎_elim, ℕ, List, [], ◌∷◌, Bool, true, false, ◌||◌, Contains, IsTrue, subst, ap, ◌∙◌, refl, zero, suc, arith}
 use Rattle.std.specs.List.{list_any}
+use Rattle.std.proofs.lemmas.Bool.{or_right}
 use Rattle.std.proofs.lemmas.List.Elements.{Contains-append_cases, Contains-append_right}
 use Rattle.mar_types.specs.Round.{Round}
 use Rattle.mar_store.specs.Changes.{Left, Within, left_of}
@@ -28,10 +29,6 @@ any_more : {T : Type 0} (test : T → Bool) (ys : List T) (x : T) → Contains y
 any_more test [] x (k, lt, is) passes = absurd (omega (arith, lt))
 any_more test (y ∷ ys) x (zero, lt, is) passes = ap (λ c. c || list_any test ys) (ap test is ∙ passes)
 any_more test (y ∷ ys) x (suc k, lt, is) passes = or_right (test y) (list_any test ys) (any_more test ys x (k, omega (arith, lt), is) passes)
-  where
-    or_right : (a b : Bool) → b ≡ true → (a || b) ≡ true
-    or_right true b is = refl
-    or_right false b is = is
 
 pub any_within : {T : Type 0} (test : T → Bool) (xs ys : List T) → Within xs ys → list_any test xs ≡ true → list_any test ys ≡ true
 any_within test xs ys within any = let (x, there, passes) = any_place test xs any in any_more test ys x (within x there) passes

@@ -1,38 +1,38 @@
 -- What an event makes of the cache: what it puts, and what its rounds prune.
 use Rattle.std.proofs.Common.{◌≡◌, inl, inr, ⊎_elim, cond, ℕ, max, List, [], ◌∷◌, ◌++◌, map, fold, Bool, true, false, None, Contains, refl, sym, ◌∙◌, ap, subst, bytes_eq, filter, find}
-use Rattle.std.specs.List.{list_any}
 use Rattle.std.proofs.lemmas.Bool.{cases_lt}
+use Rattle.std.proofs.lemmas.List.{append-nil}
 use Rattle.std.proofs.lemmas.List.Elements.{Contains-append_cases, Contains-append_left, Contains-append_right}
+use Rattle.std.specs.List.{list_any}
+use Rattle.std.specs.Option.{option_or}
+use Rattle.std.specs.Prelude.{option_and_then}
 use Rattle.mar_types.specs.Round.{Round}
 use Rattle.mar_cert.specs.Block.{Block}
 use Rattle.mar_cert.specs.Finalization.{Finalization}
 use Rattle.mar_store.specs.Changes.{Left, Within, left_of}
-use Rattle.mar_store.specs.Kept.{Kept, At}
-use Rattle.mar_model.specs.AllEntries.{PrunesByAll, is_in_place, soonest, sooner_of}
+use Rattle.mar_store.specs.Kept.{At, Kept}
+use Rattle.mar_model.specs.AllEntries.{PrunesByAll, is_in_place, sooner_of, soonest}
 use Rattle.mar_model.specs.Cache.{AdvancesCache, answer_ticket, entries_put, finished_covers, is_below, is_certified_below, is_pruned, started_syncs, tickets_from, without_cache_sync, witnessing_of}
 use Rattle.mar_model.specs.CacheCalls.{PutsAndSyncs}
 use Rattle.mar_model.specs.Cached.{Cached, cached_block, cached_finalization, finalization_entry}
 use Rattle.mar_model.specs.Chain.{Chain}
 use Rattle.mar_model.specs.Config.{Config}
-use Rattle.mar_model.specs.Event.{Event, message_told, no_floor}
+use Rattle.mar_model.specs.Entries.{has_commitment}
+use Rattle.mar_model.specs.Event.{Effect, Event, message_told, no_floor}
 use Rattle.mar_model.specs.Held.{AreCached, Held, LeavesCache, Seen}
 use Rattle.mar_model.specs.Messages.{report_finalization}
 use Rattle.mar_model.specs.Moves.{CachesFinalization, PrunesCacheBy, found_at_hand, of_commitment}
 use Rattle.mar_model.specs.Node.{Agrees, AreCachedOf, BlocksAgree, IsCacheOf, IsFinalized, Node}
+use Rattle.mar_model.specs.OpenSyncs.{AreStillOpen}
 use Rattle.mar_model.specs.Promise.{Waiting, node_of}
+use Rattle.mar_model.specs.Stored.{block_of}
 use Rattle.mar_model.proofs.CacheChanges.{any_within, map_within}
 use Rattle.mar_model.proofs.CachePrunes.{LeavesCache-pruned, not_first}
-use Rattle.mar_model.proofs.OpenSyncs.{AreStillOpen-more, AreStillOpen-refl, AreStillOpen-then}
-use Rattle.mar_model.specs.OpenSyncs.{AreStillOpen}
-use Rattle.std.proofs.lemmas.List.{append-nil}
 use Rattle.mar_model.proofs.CacheSteps.{KeepsBeside, advances_none, advances_one}
 use Rattle.mar_model.proofs.EntryLists.{contains_none}
-use Rattle.mar_model.proofs.Growing.{LeavesCache-refl}
 use Rattle.mar_model.proofs.Filtered.{all_found_put}
-use Rattle.std.specs.Option.{option_or}
-use Rattle.std.specs.Prelude.{option_and_then}
-use Rattle.mar_model.specs.Entries.{has_commitment}
-use Rattle.mar_model.specs.Stored.{block_of}
+use Rattle.mar_model.proofs.Growing.{LeavesCache-refl}
+use Rattle.mar_model.proofs.OpenSyncs.{AreStillOpen-more, AreStillOpen-refl, AreStillOpen-then}
 
 -- WHAT IS AN EVENT'S OWN
 
@@ -281,3 +281,29 @@ found_cached inner f old now buffer held commitment loaded caches = elim (cases_
   | inl less ↦ ap (λ k. found_at_hand inner buffer k.held held commitment) (caches.puts.ready less)
   | inr from ↦ found_unmoved inner buffer held commitment old.cache.kept.held now.cache.kept.held ((caches.puts.done loaded from).puts.others (λ x. has_commitment commitment (cached_block x)) refl)
 ]
+
+-- What an event makes of the cache, where other archives, another buffer and others that wait stand beside it.
+
+pub AdvancesCache-beside : {P E : Type 0} (config : Config) (n : Node) (e : Event) (fx : Effect) (m m' : Seen P E) (buffer buffer' : List Block) (waiting waiting' : Waiting)
+    → m'.held ≡ record m.held { blocks = m'.held.blocks; certs = m'.held.certs; writes = m'.held.writes; watches = m'.held.watches }
+    → AdvancesCache config n e fx (node_of m buffer waiting) → AdvancesCache config n e fx (node_of m' buffer' waiting')
+AdvancesCache-beside config n e fx m m' buffer buffer' waiting waiting' same advances = subst (λ h. AdvancesCache config n e fx (node_of (record m' { held = h }) buffer' waiting')) (sym same) (record {
+  kept = advances.kept;
+  nothing_else = advances.nothing_else;
+  stays_sure = advances.stays_sure;
+  stays = advances.stays;
+  first_stays = advances.first_stays;
+  synced = advances.synced;
+  finished = advances.finished;
+  lowest = advances.lowest;
+  lowests = advances.lowests;
+  own_lowest = advances.own_lowest;
+  cache_syncs = record {
+    still = advances.cache_syncs.still;
+    still_open = advances.cache_syncs.still_open;
+    started = advances.cache_syncs.started;
+    started_open = advances.cache_syncs.started_open;
+    are = advances.cache_syncs.are;
+  };
+  witnessed = advances.witnessed;
+})

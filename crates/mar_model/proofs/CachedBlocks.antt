@@ -1,5 +1,5 @@
 -- The block that a search of the cache finds is the one that a look through its blocks finds, where one block passes.
-use Rattle.std.proofs.Common.{◌≡◌, ◌∙◌, ◌||◌, ◌&&◌, ◌==◌, ℕ, nat_lt, List, [], ◌∷◌, Bool, true, false, Option, Some, None, Contains, bytes_eq, cond, find, refl, sym, ap, eqb-true, arith, ap₂}
+use Rattle.std.proofs.Common.{◌≡◌, ◌∙◌, ◌||◌, ◌&&◌, ◌==◌, ℕ, nat_lt, List, [], ◌∷◌, Bool, true, false, Option, Some, None, Contains, bytes_eq, cond, find, refl, sym, ap, arith, ap₂}
 use Rattle.std.specs.Prelude.{option_and_then}
 use Rattle.std.specs.List.{AllByRecursion, cons_option, filter_map}
 use Rattle.mar_types.specs.Round.{Round, round_eq}
@@ -12,6 +12,7 @@ use Rattle.mar_model.specs.Moves.{cached_by_commitment}
 use Rattle.mar_model.specs.Promise.{AreOne}
 use Rattle.mar_model.specs.Queries.{cached_at, cached_by_digest}
 use Rattle.mar_model.proofs.AtHand.{AllByRecursion-find, bytes_same}
+use Rattle.mar_model.proofs.EntryLists.{rounds_same}
 use Rattle.mar_model.proofs.Looking.{passes_found, and_false}
 
 module _ (all : List Block) (p : Block → Bool) (one : (x y : Block) → Contains all x → Contains all y → p x ≡ true → p y ≡ true → x ≡ y) (test : Option Block → Bool) (none : test None ≡ false) (some : (b : Block) → test (Some b) ≡ p b) where
@@ -59,14 +60,6 @@ module _ (inner : List ℕ → List ℕ) (all : List Block) (one : AreOne inner 
 
 -- OF A ROUND
 
-pub same_round : (r s : Round) → round_eq r s ≡ true → r ≡ s
-same_round r s is = by (r.epoch == s.epoch) refl (r.view == s.view) refl is
-  where
-    by : (a : Bool) → (r.epoch == s.epoch) ≡ a → (b : Bool) → (r.view == s.view) ≡ b → (a && b) ≡ true → r ≡ s
-    by true epochs true views both = ap₂ (λ (e v : ℕ). record { epoch = e; view = v }) (eqb-true r.epoch s.epoch epochs) (eqb-true r.view s.view views)
-    by true epochs false views both = absurd cc
-    by false epochs b views both = absurd cc
-
 pub eqb-sym : (a b : ℕ) → (a == b) ≡ (b == a)
 eqb-sym a b = grind arith
 
@@ -92,14 +85,11 @@ verified_first r (verified_entry s b ∷ xs) = ap (λ c. option_and_then cached_
     alone (Some y) passes at = later y (passes y refl)
       where
         later : (y : Cached) → is_verified_at r y ≡ true → option_and_then cached_block (sooner_of (verified_entry s b) (Some y)) ≡ Some b
-        later (verified_entry t c) is = ap (λ f. option_and_then cached_block (cond f (Some (verified_entry t c)) (Some (verified_entry s b)))) (none_sooner s t b c (same_round t r is ∙ at))
-        later (finalization_entry f) is = absurd cc
-        later (notarized_entry t c) is = absurd cc
-        later (certified_entry k c) is = absurd cc
-        later (notarization_entry n) is = absurd cc
+        later (verified_entry t c) is = ap (λ f. option_and_then cached_block (cond f (Some (verified_entry t c)) (Some (verified_entry s b)))) (none_sooner s t b c (rounds_same t r is ∙ at))
+        later _ is = absurd cc
 
     by : cached_at r xs ≡ first_verified xs r → (c : Bool) → round_eq r s ≡ c → option_and_then cached_block (cond c (sooner_of (verified_entry s b) (soonest (is_verified_at r) xs)) (soonest (is_verified_at r) xs)) ≡ first_of (cons_option (cond c (Some b) None) (filter_map (verified_in r) xs))
-    by rest true is = alone (soonest (is_verified_at r) xs) (λ y e. passes_found (is_verified_at r) xs y e) (same_round r s is)
+    by rest true is = alone (soonest (is_verified_at r) xs) (λ y e. passes_found (is_verified_at r) xs y e) (rounds_same r s is)
     by rest false is = rest
 verified_first r (finalization_entry f ∷ xs) = verified_first r xs
 verified_first r (notarized_entry s b ∷ xs) = verified_first r xs

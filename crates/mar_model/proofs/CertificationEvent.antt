@@ -1,7 +1,7 @@
 -- What is known as certified after an event.
 use Rattle.std.proofs.Common.{◌≡◌, ℕ, List, ◌++◌, Bool, true, false, nat_lt, filter, IsTrue, refl, ◌∙◌, ap}
 use Rattle.mar_cert.specs.Block.{Block}
-use Rattle.mar_model.specs.Event.{Event, message_told, Effect, effect_of, is_query, life_started, ack_marked, sync_finished, peer_answered, gave_block, gave_finalized, gave_notarized, gave_nothing, serve_ended, block_buffered, buffer_ended}
+use Rattle.mar_model.specs.Event.{Event, message_told, Effect, effect_of, is_query, life_started, ack_marked, sync_finished, peer_answered, gave_block}
 use Rattle.mar_model.specs.Messages.{report_certification, report_finalization, report_notarization, verified, proposed, prepared, certify, get_info, get_block, get_finalization, get_processed, get_anchor, get_verified, hint_finalized, set_floor, prune_below, hint_notarized, forward, close_ticket, subscribe_digest, subscribe_commitment}
 use Rattle.mar_model.specs.Config.{Config}
 use Rattle.mar_model.specs.Chain.{Chain}
@@ -50,12 +50,7 @@ module _ {P E : Type 0} (config : Config) (chain : Chain) (a : Seen P E) (buffer
   commitments-are one blocks (ack_marked t m) fx is = refl
   commitments-are one blocks (sync_finished t) fx is = refl
   commitments-are one blocks (peer_answered (gave_block b annotations)) fx is = absurd cc
-  commitments-are one blocks (peer_answered (gave_finalized f b)) fx is = refl
-  commitments-are one blocks (peer_answered (gave_notarized f b)) fx is = refl
-  commitments-are one blocks (peer_answered gave_nothing) fx is = refl
-  commitments-are one blocks serve_ended fx is = refl
-  commitments-are one blocks (block_buffered b) fx is = refl
-  commitments-are one blocks buffer_ended fx is = refl
+  commitments-are one blocks _ fx is = refl
 
   -- where it was learned as an actor does, it is what is known after the event
   pub known-since : AreOne config.inner (known_blocks chain n) → AreBlocksOf chain a.held.blocks.held → (e : Event) (tip : ℕ) (certified : List CertifiedCommitment) → teaches_parents e ≡ false → Learns waiting.certified (commitments_found config.inner a.held buffer e) tip certified → (IsTrue (is_query e) → certified ≡ waiting.certified) → IsKnownSince config n e tip certified

@@ -13,7 +13,7 @@ use Rattle.mar_model.specs.Metadata.{Pair, first_pair, pair_of}
 use Rattle.mar_model.specs.Chain.{Chain, Finalizes, IsBlockAt}
 use Rattle.mar_model.specs.Config.{Config}
 use Rattle.mar_model.specs.Event.{Event, cutoff_after, effect_of, no_floor, processed_after}
-use Rattle.mar_model.specs.Faults.{Fault, corrupt, damaged, dropped_ack, event_fault, floor_epoch_unavailable, floor_invalid, floor_parent_mismatch, genesis_height, genesis_mismatch, height_limit, is_by_value, meta_store, next_after, store_fault, sync_kind, ticket_limit, unbacked, want_of_memory}
+use Rattle.mar_model.specs.Faults.{Fault, event_fault, is_by_value, meta_store, next_after, store_fault, sync_kind, ticket_limit, want_of_memory}
 use Rattle.mar_model.specs.Cache.{MayBeCached, certified_from, is_below, is_certified_below, is_pruned, witnessing_of}
 use Rattle.mar_model.specs.Cached.{Cached, cached_block, cached_finalization, epoch_of}
 use Rattle.mar_model.specs.Held.{Ending, IsArchiveFault, IsUsual, LeavesCache, LeavesStore, Loses, Seen, Written, blocks_left, cache_left, certs_left}
@@ -248,47 +248,17 @@ module _ {P E : Type 0} (config : Config) (chain : Chain) (a : Seen P E) (e : Ev
 pub usual_not_by_value : (fault : Fault) → IsUsual fault → is_by_value fault ≡ false
 usual_not_by_value (store_fault s) usual = refl
 usual_not_by_value want_of_memory usual = refl
-usual_not_by_value (damaged s at) usual = absurd usual
-usual_not_by_value (dropped_ack h) usual = absurd usual
-usual_not_by_value (floor_epoch_unavailable k) usual = absurd usual
-usual_not_by_value (floor_invalid r) usual = absurd usual
-usual_not_by_value (floor_parent_mismatch h p i) usual = absurd usual
-usual_not_by_value (genesis_height h) usual = absurd usual
-usual_not_by_value (genesis_mismatch c d) usual = absurd usual
-usual_not_by_value (corrupt h c d) usual = absurd usual
-usual_not_by_value (unbacked h) usual = absurd usual
-usual_not_by_value (height_limit h) usual = absurd usual
-usual_not_by_value (ticket_limit k) usual = absurd usual
+usual_not_by_value _ usual = absurd usual
 
 pub usual_from_archive : (fault : Fault) → IsArchiveFault fault → IsUsual fault
 usual_from_archive (store_fault s) is = tt
 usual_from_archive want_of_memory is = tt
-usual_from_archive (damaged s at) is = absurd is
-usual_from_archive (dropped_ack h) is = absurd is
-usual_from_archive (floor_epoch_unavailable k) is = absurd is
-usual_from_archive (floor_invalid r) is = absurd is
-usual_from_archive (floor_parent_mismatch h p i) is = absurd is
-usual_from_archive (genesis_height h) is = absurd is
-usual_from_archive (genesis_mismatch c d) is = absurd is
-usual_from_archive (corrupt h c d) is = absurd is
-usual_from_archive (unbacked h) is = absurd is
-usual_from_archive (height_limit h) is = absurd is
-usual_from_archive (ticket_limit k) is = absurd is
+usual_from_archive _ is = absurd is
 
 pub usual_not_dropped : (fault : Fault) → IsUsual fault → is_dropped_ack fault ≡ false
 usual_not_dropped (store_fault s) usual = refl
 usual_not_dropped want_of_memory usual = refl
-usual_not_dropped (damaged s at) usual = absurd usual
-usual_not_dropped (dropped_ack h) usual = absurd usual
-usual_not_dropped (floor_epoch_unavailable k) usual = absurd usual
-usual_not_dropped (floor_invalid r) usual = absurd usual
-usual_not_dropped (floor_parent_mismatch h p i) usual = absurd usual
-usual_not_dropped (genesis_height h) usual = absurd usual
-usual_not_dropped (genesis_mismatch c d) usual = absurd usual
-usual_not_dropped (corrupt h c d) usual = absurd usual
-usual_not_dropped (unbacked h) usual = absurd usual
-usual_not_dropped (height_limit h) usual = absurd usual
-usual_not_dropped (ticket_limit k) usual = absurd usual
+usual_not_dropped _ usual = absurd usual
 
 -- nor is the fault of a sync that could not be started
 pub unstarted_plain : {T : Type 0} (fault : Fault) → IsArchiveFault fault ⊎ ((fault ≡ ticket_limit sync_kind) × T) → (is_by_value fault ≡ false) × (is_dropped_ack fault ≡ false)

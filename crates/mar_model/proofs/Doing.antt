@@ -11,7 +11,7 @@ use Rattle.mar_model.specs.Answers.{Sent, TicketAnswer}
 use Rattle.mar_model.specs.Cache.{notarized_where}
 use Rattle.mar_model.specs.Plans.{answer_plan, kept_plan}
 use Rattle.mar_model.specs.Event.{retired, round_at}
-use Rattle.mar_model.specs.Faults.{Fault, block_store, cache_store, cert_store, corrupt, damaged, dropped_ack, floor_epoch_unavailable, floor_invalid, floor_parent_mismatch, genesis_height, genesis_mismatch, height_limit, meta_store, store_fault, ticket_limit, unbacked, want_of_memory}
+use Rattle.mar_model.specs.Faults.{Fault, block_store, cache_store, cert_store, meta_store, store_fault, want_of_memory}
 use Rattle.mar_model.specs.Held.{ArePassed, Ending, GoesOn, Held, IsReadFault, IsUsual, ended_on, nothing_written, written_entries, written_pair, written_prunes}
 use Rattle.mar_model.specs.AllEntries.{LoadsEntries}
 use Rattle.mar_model.specs.CacheCalls.{none_goes}
@@ -40,17 +40,7 @@ usual_read (store_fault cert_store) is = tt
 usual_read (store_fault cache_store) is = tt
 usual_read (store_fault meta_store) is = absurd is
 usual_read want_of_memory is = tt
-usual_read (damaged s h) is = absurd is
-usual_read (dropped_ack h) is = absurd is
-usual_read (floor_epoch_unavailable k) is = absurd is
-usual_read (floor_invalid r) is = absurd is
-usual_read (floor_parent_mismatch h p i) is = absurd is
-usual_read (genesis_height h) is = absurd is
-usual_read (genesis_mismatch c d) is = absurd is
-usual_read (corrupt h c d) is = absurd is
-usual_read (unbacked h) is = absurd is
-usual_read (height_limit h) is = absurd is
-usual_read (ticket_limit k) is = absurd is
+usual_read _ is = absurd is
 
 pub unsynced_read : (fault : Fault) → IsReadFault fault → fault ≡ store_fault meta_store → ⊥
 unsynced_read fault read is = subst IsReadFault is read

@@ -1,5 +1,5 @@
 -- Acknowledged blocks that are processed one after another.
-use Rattle.std.proofs.Common.{◌≡◌, ℕ, suc, ◌+◌, List, [], ◌∷◌, ◌++◌, length, flat_map, fold, Contains, Bool, true, false, if◌then◌else◌, nat_lt, is_some, Option, Some, None, option_to_list, refl, sym, ◌∙◌, ap, ap₂, subst, arith, append_assoc, append-nil, length-append}
+use Rattle.std.proofs.Common.{◌≡◌, ℕ, ◌+◌, List, [], ◌∷◌, ◌++◌, length, flat_map, fold, Contains, Bool, true, false, if◌then◌else◌, nat_lt, is_some, Option, Some, None, option_to_list, refl, sym, ◌∙◌, ap, ap₂, subst, arith, append_assoc, append-nil, length-append}
 use Rattle.std.proofs.lemmas.Bool.Decides.{nat_tests}
 use Rattle.std.proofs.lemmas.Grind.{flat_map-append}
 use Rattle.std.proofs.lemmas.List.Elements.{Contains-append_left, Contains-append_right}
@@ -78,15 +78,6 @@ none_oldest out none = by (given_oldest out) none
     by : (o : Option Outstanding) → is_some o ≡ false → option_to_list o ≡ []
     by None e = refl
     by (Some a) e = absurd cc
-
--- the front and what is behind it are all
-both_parts : (out : List Outstanding) → length (given_front out) + length (after_given out) ≡ length out
-both_parts [] = refl
-both_parts (a ∷ out) = by (is_given a.mark) (both_parts out)
-  where
-    by : (b : Bool) → length (given_front out) + length (after_given out) ≡ length out → length (if b then a ∷ given_front out else []) + length (if b then after_given out else a ∷ out) ≡ suc (length out)
-    by true rest = omega arith
-    by false rest = omega arith
 
 -- WHAT IS ASKED AND WITNESSED
 

@@ -1,12 +1,12 @@
 -- Lists of cached entries: which are found, and which stay.
 use Rattle.std.proofs.Common.{◌≡◌, ◌≢◌, ◌⊎◌, inl, inr, ◌==◌, ◌&&◌, ◌||◌, zero, suc, List, [], ◌∷◌, Bool, true, false, Contains, Option, Some, None, cond, refl, ap, ap₂, sym, arith, filter, ◌∙◌}
 use Rattle.std.specs.List.{cons_option, filter_map, list_any}
-use Rattle.std.proofs.lemmas.Bool.{eqb-true, ne_eqb}
+use Rattle.std.proofs.lemmas.Bool.{and_parts, eqb-true, ne_eqb}
 use Rattle.mar_types.specs.Round.{Round, round_eq}
 use Rattle.mar_cert.specs.Block.{Block}
 use Rattle.mar_model.specs.AllEntries.{FirstsStay}
 use Rattle.mar_model.specs.Cache.{first_of, verified_in}
-use Rattle.mar_model.specs.Cached.{Cached, certified_entry, epoch_of, finalization_entry, notarization_entry, notarized_entry, verified_entry}
+use Rattle.mar_model.specs.Cached.{Cached, epoch_of, verified_entry}
 
 and_false_left : (a b : Bool) → a ≡ false → (a && b) ≡ false
 and_false_left false b is = refl
@@ -53,20 +53,13 @@ filtered {T} test (x ∷ xs) y has = by (test x) refl has (filtered test xs y)
     by true is (suc k, lt, at) rest = let (found, passes) = rest (k, omega (arith, lt), at) in let (j, under, same) = found in ((suc j, omega (arith, under), same), passes)
     by false is has' rest = let (found, passes) = rest has' in let (j, under, same) = found in ((suc j, omega (arith, under), same), passes)
 
-and_both : (p q : Bool) → (p && q) ≡ true → (p ≡ true) × (q ≡ true)
-and_both true q is = (refl, is)
-and_both false q is = absurd cc
-
 pub rounds_same : (s t : Round) → round_eq s t ≡ true → s ≡ t
-rounds_same s t same = let parts = and_both (s.epoch == t.epoch) (s.view == t.view) same in ap₂ {C = Round} (λ e v. record { epoch = e; view = v }) (eqb-true s.epoch t.epoch parts.0) (eqb-true s.view t.view parts.1)
+rounds_same s t same = let parts = and_parts (s.epoch == t.epoch) (s.view == t.view) same in ap₂ {C = Round} (λ e v. record { epoch = e; view = v }) (eqb-true s.epoch t.epoch parts.0) (eqb-true s.view t.view parts.1)
 
 -- no block was verified at a round of another epoch
 verified_elsewhere : (r : Round) (x : Cached) → epoch_of x ≢ r.epoch → verified_in r x ≡ None
 verified_elsewhere r (verified_entry s b) other = ap (λ c. cond c (Some b) None) (and_false_left (r.epoch == s.epoch) (r.view == s.view) (ne_eqb r.epoch s.epoch (λ same. other (sym same))))
-verified_elsewhere r (finalization_entry f) other = refl
-verified_elsewhere r (notarized_entry s b) other = refl
-verified_elsewhere r (certified_entry e b) other = refl
-verified_elsewhere r (notarization_entry f) other = refl
+verified_elsewhere r _ other = refl
 
 pub none_verified : (r : Round) (xs : List Cached) → ((y : Cached) → Contains xs y → epoch_of y ≢ r.epoch) → filter_map (verified_in r) xs ≡ []
 none_verified r [] other = refl
@@ -86,10 +79,7 @@ first_filtered r test c all (x ∷ xs) = by (test x) refl (verified_in r x) refl
 
     found : (y : Cached) → verified_in r y ≢ None → test y ≡ c
     found (verified_entry s b) some = at s b (round_eq r s) refl some
-    found (finalization_entry f) some = absurd (some refl)
-    found (notarized_entry s b) some = absurd (some refl)
-    found (certified_entry e b) some = absurd (some refl)
-    found (notarization_entry f) some = absurd (some refl)
+    found _ some = absurd (some refl)
 
     some_is : (b : Block) → verified_in r x ≡ Some b → test x ≡ c
     some_is b some = found x (λ none. let clash : ◌≡◌ {A = Option Block} (Some b) None = sym some ∙ none in cc)

@@ -39,15 +39,12 @@ use Rattle.mar_model.proofs.FloorSafety.{MeetsFinal}
 use Rattle.mar_model.proofs.FoundBlocks.{found-is}
 use Rattle.mar_model.proofs.Growing.{WithinWritten-entry, WithinWritten-nothing, WithinWritten-refl}
 use Rattle.mar_model.proofs.PairsAfter.{IsSafePair-after}
-use Rattle.mar_model.proofs.PlainEvents.{nothing_put}
 use Rattle.mar_model.proofs.Soundness.{own_pair_safe, untold}
 use Rattle.mar_model.proofs.Owns.{Owns, course_of, node_at, own_pair, pair_after, sends_in, answers_in, asks_in, written_in}
 use Rattle.mar_model.proofs.CutsRan.{Cuts-plan, Cuts-repairing, IsOwned, OwnsWritten}
-use Rattle.mar_model.proofs.Acting.{as_tasks}
-use Rattle.mar_model.proofs.Filling.{OwnsFills, OwnsFills-all, filled_blocks, filled_certs}
-use Rattle.mar_model.proofs.FillsOwned.{AreToFill, behind_within, found_within, own-pass}
+use Rattle.mar_model.proofs.Acting.{BreaksBehind, as_tasks, flattened}
+use Rattle.mar_model.proofs.Filling.{AreToFill, OwnsFills, OwnsFills-all, behind_within, filled_blocks, filled_certs, found_within, own-pass}
 use Rattle.mar_model.proofs.Filtered.{all_found_put, all_found_within}
-use Rattle.mar_model.proofs.Flattened.{BreaksBehind, flattened}
 use Rattle.mar_model.proofs.StoredValues.{all_held}
 use Rattle.mar_model.proofs.Owning.{IsOwned-undrained, OwnsWritten-cached}
 use Rattle.mar_model.proofs.SyncPromise.{at}
@@ -151,7 +148,7 @@ module _ (config : Config) (chain : Chain) (start : Scene) (f : Finalization) (b
     cache = own_reported config chain n f _ step.reported.0 (λ r has. subst (λ rs. Contains rs r) (prunes_are b is low) has);
     of_blocks = tt;
     of_certs = finalizes b is;
-    own_blocks = λ x has. nothing_put x has;
+    own_blocks = λ x has. contains_none x has;
     own_certs = own_cert b;
   })
 

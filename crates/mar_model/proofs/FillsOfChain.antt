@@ -1,16 +1,18 @@
 -- What a pass of repair fills in is the chain's: each block stands at its height there, comes from the buffer or the cache, and was
 -- not held; its cached finalization finalizes it.
-use Rattle.std.proofs.Common.{◌≡◌, ◌⊎◌, inl, inr, ⊎_elim, ◌∷◌, [], List, ◌++◌, option_and_then, option_map, is_some, slice_get, Contains, IsTrue, Option, None, Some, Bool, true, false, if◌then◌else◌, ◌||◌, bytes_eq, find, zero, suc, ℕ, ◌+◌, ◌-◌, ◌<◌, arith, refl, sym, ◌∙◌, ap, subst}
+use Rattle.std.proofs.Common.{◌≡◌, ◌⊎◌, inl, inr, ⊎_elim, ◌∷◌, [], List, ◌++◌, option_and_then, option_map, is_some, slice_get, Contains, IsTrue, Option, None, Some, Bool, true, false, if◌then◌else◌, ◌||◌, bytes_eq, find, zero, suc, ℕ, ◌+◌, ◌-◌, ◌<◌, arith, refl, sym, ◌∙◌, ap, subst, map}
 use Rattle.std.specs.Prelude.{⊤}
 use Rattle.std.specs.List.{AllByRecursion, filter_map}
 use Rattle.std.specs.Option.{option_or}
 use Rattle.std.proofs.lemmas.List.Elements.{Contains-append_left, Contains-append_right}
+use Rattle.std.proofs.lemmas.Option.{same_Some}
 use Rattle.mar_types.specs.Epochs.{Epochs}
 use Rattle.mar_cert.specs.Block.{Block}
 use Rattle.mar_cert.specs.Finalization.{Finalization}
 use Rattle.mar_store.specs.Changes.{heights}
-use Rattle.mar_store.specs.Gaps.{BeginsNext}
-use Rattle.mar_store.specs.Kept.{At, has_height}
+use Rattle.mar_store.specs.Gaps.{BeginsNext, missing_items, next_start}
+use Rattle.mar_store.specs.Kept.{At, has_height, value_at}
+use Rattle.mar_store.specs.Ranges.{ranges}
 use Rattle.mar_store.proofs.GapHeights.{start_some}
 use Rattle.mar_store.proofs.Lookups.{AllByRecursion-append, AllByRecursion-contains, AllByRecursion-from_contains, AllByRecursion-value_at, Contains-from_value, has_height-from_contains, value-from_has_height}
 use Rattle.mar_model.specs.AllEntries.{soonest}
@@ -20,7 +22,8 @@ use Rattle.mar_model.specs.Entries.{has_commitment, is_for}
 use Rattle.mar_model.specs.Moves.{cached_by_commitment, of_commitment}
 use Rattle.mar_model.specs.Node.{Agrees, AreBlocksOf, AreCachedOf, IsFinalized}
 use Rattle.mar_model.specs.Promise.{AreOne}
-use Rattle.mar_model.specs.Repair.{AreFills, Search, cached_for, fill_of, look_up, of_payload, with_fill, with_fills}
+use Rattle.mar_model.specs.Repair.{AreFills, Search, cached_for, fetch_asks, fill_of, gap_asks, height_fetch, look_up, of_payload, parent_fetch, parent_of, parent_wanted, with_fill, with_fills}
+use Rattle.mar_model.specs.Requests.{IsRepairFetch}
 use Rattle.mar_model.specs.Stored.{at_own_height, block_of, is_held, values_of}
 use Rattle.mar_model.proofs.AtHand.{AllByRecursion-find, block_of_final, bytes_same, find-passes}
 use Rattle.mar_model.proofs.Filtered.{all_found_of}
@@ -40,7 +43,7 @@ abbrev pub AreNew : List (At Block) → List Block → Type 0
 AreNew held [] = ⊤
 AreNew held (b ∷ fills) = (is_held held b ≡ false) × AreNew (with_fill held b) fills
 
-itself : {T : Type 0} (xs : List T) → AllByRecursion (Contains xs) xs
+pub itself : {T : Type 0} (xs : List T) → AllByRecursion (Contains xs) xs
 itself xs = AllByRecursion-from_contains (Contains xs) xs (λ x has. has)
 
 held_contains : (held : List (At Block)) (h : ℕ) → IsTrue (has_height held h) → Contains (heights held) h
@@ -51,9 +54,6 @@ contains_held held h there = let (x, has, at) = entry_of held h there in subst (
 
 never_both : (b : Bool) → b ≡ false → b ≡ true → ⊥
 never_both b off on = let no : false ≡ true = sym off ∙ on in cc
-
-inside : (x b : Block) → ◌≡◌ {A = Option Block} (Some x) (Some b) → x ≡ b
-inside x b is = cc
 
 -- what is at hand is beside the archive, or in it
 pub look_up-from : (s : Search) (held : List (At Block)) (c : List ℕ) (b : Block) → look_up s held c ≡ Some b → Contains (s.buffer ++ filter_map cached_block s.cached) b ⊎ Contains (values_of held) b
@@ -68,13 +68,13 @@ look_up-from s held c b is = by (find (λ x. bytes_eq x.commitment c) s.buffer) 
     of_stored (Some x) stored one = tested (bytes_eq x.commitment c) one
       where
         tested : (m : Bool) → (if m then Some x else None) ≡ Some b → Contains (values_of held) b
-        tested true same = subst (Contains (values_of held)) (inside x b same) (AllByRecursion-find (Contains (values_of held)) (λ y. bytes_eq y.digest (s.inner c)) (values_of held) x (itself (values_of held)) stored)
+        tested true same = subst (Contains (values_of held)) (same_Some x b same) (AllByRecursion-find (Contains (values_of held)) (λ y. bytes_eq y.digest (s.inner c)) (values_of held) x (itself (values_of held)) stored)
         tested false none = absurd cc
 
     by : (o : Option Block) → find (λ x. bytes_eq x.commitment c) s.buffer ≡ o → (k : Option Block) → cached_by_commitment c s.cached ≡ k
         → option_or o (option_or k (of_commitment c (block_of held (s.inner c)))) ≡ Some b → Contains (s.buffer ++ filter_map cached_block s.cached) b ⊎ Contains (values_of held) b
-    by (Some x) first k kept one = inl (Contains-append_left s.buffer (filter_map cached_block s.cached) b (subst (Contains s.buffer) (inside x b one) (AllByRecursion-find (Contains s.buffer) (λ y. bytes_eq y.commitment c) s.buffer x (itself s.buffer) first)))
-    by None first (Some x) kept one = inl (Contains-append_right s.buffer (filter_map cached_block s.cached) b (subst (Contains (filter_map cached_block s.cached)) (inside x b one) (cached_in' x kept)))
+    by (Some x) first k kept one = inl (Contains-append_left s.buffer (filter_map cached_block s.cached) b (subst (Contains s.buffer) (same_Some x b one) (AllByRecursion-find (Contains s.buffer) (λ y. bytes_eq y.commitment c) s.buffer x (itself s.buffer) first)))
+    by None first (Some x) kept one = inl (Contains-append_right s.buffer (filter_map cached_block s.cached) b (subst (Contains (filter_map cached_block s.cached)) (same_Some x b one) (cached_in' x kept)))
       where
         cached_in' : (y : Block) → cached_by_commitment c s.cached ≡ Some y → Contains (filter_map cached_block s.cached) y
         cached_in' y found = of_entry (soonest (λ z. has_commitment c (cached_block z)) s.cached) refl found
@@ -218,6 +218,55 @@ module _ (epochs : Epochs) (chain : Chain) (lawful : IsLawful epochs chain) (s :
   -- none is wanted that is at hand and held
   pub fills-apart : (held : List (At Block)) → AreBlocksOf chain held → (b : Block) → fill_of s held ≡ Some b → is_held held b ≡ false
   fills-apart held blocks b is = (fill_is held blocks b is).1
+
+  -- WHAT IT ASKS FOR AT THE END
+
+  pub gap-honest : (after : List (At Block)) → AreBlocksOf chain after → (most : ℕ) → AllByRecursion (IsRepairFetch chain) (gap_asks s most after)
+  gap-honest after blocks most =
+      AllByRecursion-append (IsRepairFetch chain) (fetch_asks s after (parent_wanted s.from after)) _ (parents (next_start (ranges (heights after)) s.from) refl) (each (missing_items (ranges (heights after)) s.from most))
+    where
+      each : (hs : List ℕ) → AllByRecursion (IsRepairFetch chain) (map height_fetch hs)
+      each [] = tt
+      each (h ∷ hs) = ((refl, refl), each hs)
+
+      of_upper : (k : ℕ) (b : Block) → next_start (ranges (heights after)) s.from ≡ Some k → value_at after k ≡ Some b → (o : Option Block) → AllByRecursion (IsRepairFetch chain) (if is_some o then [] else parent_fetch (parent_of b) ∷ [])
+      of_upper k b is at (Some p) = tt
+      of_upper k b is at None =
+          let there : IsBlockAt chain k b = AllByRecursion-value_at (λ y. IsBlockAt chain y.height y.value) after k b blocks at in
+          let begins = start_some (heights after) s.from k is in
+          let above : s.from < k = begins.above in
+          ((refl, b.height - 1, refl, subst (λ j. commitment_at chain (j - 1) ≡ Some b.parent_commitment) (sym (lawful.heights k b there)) (parent_named k b (omega arith) there)), tt)
+
+      at_start : (k : ℕ) → next_start (ranges (heights after)) s.from ≡ Some k → (o : Option Block) → value_at after k ≡ o → AllByRecursion (IsRepairFetch chain) (fetch_asks s after (option_map parent_of o))
+      at_start k is None at = tt
+      at_start k is (Some b) at = of_upper k b is at (look_up s after b.parent_commitment)
+
+      parents : (o : Option ℕ) → next_start (ranges (heights after)) s.from ≡ o → AllByRecursion (IsRepairFetch chain) (fetch_asks s after (option_map parent_of (option_and_then (value_at after) o)))
+      parents None is = tt
+      parents (Some k) is = at_start k is (value_at after k) refl
+
+  -- THE NEWEST CERTIFICATE'S BLOCK
+
+  -- the block at hand that the newest certificate names, where it is above all that are held
+  pub newest-found : (held : List (At Block)) → AreBlocksOf chain held → (x : At Finalization) → Finalizes chain x.height x.value.round x.value.payload → ((k : ℕ) → IsTrue (has_height held k) → k < x.height)
+      → (b : Block) → look_up s held x.value.payload ≡ Some b → IsFill chain beside b × (b.height ≡ x.height) × (is_held held b ≡ false)
+  newest-found held blocks x final above b found = (record { at = at_own; from = is.1 }, own, unheld_is held blocks b at_own (subst (λ k. has_height held k ≡ false) (sym own) free))
+    where
+      free : has_height held x.height ≡ false
+      free = by (has_height held x.height) refl
+        where
+          by : (c : Bool) → has_height held x.height ≡ c → c ≡ false
+          by true has = absurd (let low : x.height < x.height = above x.height has in omega arith)
+          by false has = refl
+
+      is : IsBlockAt chain x.height b × Contains beside b
+      is = found_is held blocks x.height x.value.payload b final.payload_is found free
+
+      own : b.height ≡ x.height
+      own = lawful.heights x.height b is.0
+
+      at_own : IsBlockAt chain b.height b
+      at_own = subst (λ k. IsBlockAt chain k b) (sym own) is.0
 
   -- CERTIFICATES
 

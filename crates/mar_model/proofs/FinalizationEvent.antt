@@ -3,6 +3,7 @@ use Rattle.std.proofs.Common.{◌≡◌, ◌⊎◌, inl, inr, ℕ, zero, ◌-◌
 use Rattle.std.specs.List.{filter_map, list_any}
 use Rattle.std.specs.Option.{option_or}
 use Rattle.std.proofs.lemmas.List.Elements.{Contains-append_right}
+use Rattle.std.proofs.lemmas.Option.{same_Some}
 use Rattle.mar_types.specs.Epochs.{IsPartition}
 use Rattle.mar_types.specs.Round.{Round, round_lt}
 use Rattle.mar_cert.specs.Block.{Block}
@@ -22,7 +23,7 @@ use Rattle.mar_model.specs.Cache.{Witnessing, prunes_by, with_witness, witnessin
 use Rattle.mar_model.specs.Chain.{Chain, Finalizes, IsBlockAt, IsFinal, IsLawful, commitment_at}
 use Rattle.mar_model.specs.Config.{Config}
 use Rattle.mar_model.specs.Event.{Event, Met, Storing, cutoff_after, message_told, met_finalization, met_of, met_rounds, no_floor, own_writes, processed_after, storing_of, told_finalization}
-use Rattle.mar_model.specs.Faults.{height_limit, last_height, storing_fault}
+use Rattle.mar_model.specs.Faults.{event_fault, height_limit, last_height, storing_fault}
 use Rattle.mar_model.specs.Held.{AreCached, Held, HeldCache, Seen}
 use Rattle.mar_model.specs.Lives.{later_round}
 use Rattle.mar_model.specs.Moves.{CachesFinalization, IsRead, PrunesCacheBy, PutsAbove, RaisesTo, StoresLate, StoresValue, StoresWhere, at_height, lacks_finalization, late_tip, late_tips, pruned_by, tip_reports, with_cache_of, with_watches}
@@ -30,7 +31,7 @@ use Rattle.mar_model.specs.Node.{AreBlocksOf, AreNestedHeights, FloorSafe, IsCac
 use Rattle.mar_model.specs.Promise.{AreOne, Waiting, node_of, known_blocks}
 use Rattle.mar_model.specs.Requests.{own_asks, raise_asks, reported_asks, want_asks, awaits_no_more, is_pass}
 use Rattle.mar_model.specs.Sound.{IsSafePair}
-use Rattle.mar_model.specs.Step.{AreTipsOf, CertificatesFrom, EntersAt, IsCertFrom, IsStored, IsStoredLate, KeepsFrom, Report, TipsFrom, Writes, is_repaired, own_heights}
+use Rattle.mar_model.specs.Step.{AreTipsOf, CertificatesFrom, EntersAt, IsCertFrom, IsStored, IsStoredLate, Report, TipsFrom, Writes, is_repaired, own_heights}
 use Rattle.mar_model.proofs.AtHand.{at_hand-commitment, block_of_final, bytes_same}
 use Rattle.mar_model.proofs.CacheOver.{IsCacheOf-put, MovesCache, cached_as, moves_reported}
 use Rattle.mar_model.proofs.CachePrunes.{IsCacheOf-pruned, PrunesCacheBy-beside, PrunesCacheBy-none}
@@ -39,9 +40,9 @@ use Rattle.mar_model.proofs.FloorSafety.{MeetsFinal}
 use Rattle.mar_model.proofs.FoundBlocks.{Contains-slice_get, chain_known}
 use Rattle.mar_model.proofs.KnownBlocks.{at_hand-known, known_agrees}
 use Rattle.mar_model.proofs.PairsAfter.{IsSafePair-after}
-use Rattle.mar_model.proofs.Growing.{Grown, Grown-same}
-use Rattle.mar_model.proofs.PlainEvents.{Certificates-same, EntersAt-same, KeepsFrom-same, Writes-same, nothing_put}
-use Rattle.mar_model.proofs.Reaching.{AreTips, Reaches, some_first, brought_from, told_from}
+use Rattle.mar_model.proofs.Growing.{Grown}
+use Rattle.mar_model.proofs.PlainEvents.{Certificates-same, EntersAt-same, Writes-same}
+use Rattle.mar_model.proofs.Reaching.{AreTips, HasNoPart, PutsOwn-same, Reaches, brought_from, some_first, told_from}
 use Rattle.mar_model.proofs.StoredValues.{stored_height, entered_height, KeepsFrom-put, found_place, any_place, either_test, due_height, KeepsFrom-due, held_due, may_due, sure_due}
 use Rattle.mar_model.proofs.Tips.{above_from, low_from, tip_after-high, tip_reports-chain, tip_reports-rise, tip_reports-tips}
 use Rattle.mar_model.proofs.StillGood.{IsGood-with, IsGood-grown}
@@ -87,15 +88,12 @@ no_limit true h apart = by (h == last_height) refl
 
 -- WHICH CERTIFICATE ENTERS
 
-inside_some : {T : Type 0} (x y : T) → ◌≡◌ {A = Option T} (Some x) (Some y) → x ≡ y
-inside_some x y is = cc
-
 -- what stands behind one more is what stood, or the one more
 pushed_value : {T : Type 0} (xs : List (At T)) (x : At T) (h : ℕ) (v : T) → value_at (xs ++ x ∷ []) h ≡ Some v → (value_at xs h ≡ Some v) ⊎ (x.value ≡ v)
 pushed_value {T = T} xs x h v is = by (value_at xs h) refl (sym (value_at-append xs (x ∷ []) h) ∙ is)
   where
     by_new : (c : Bool) → ◌≡◌ {A = Option T} (if c then Some x.value else None) (Some v) → x.value ≡ v
-    by_new true same = inside_some x.value v same
+    by_new true same = same_Some x.value v same
     by_new false same = absurd cc
 
     by : (o : Option T) → value_at xs h ≡ o → option_or o (value_at (x ∷ []) h) ≡ Some v → (value_at xs h ≡ Some v) ⊎ (x.value ≡ v)
@@ -120,7 +118,7 @@ Certificates-pushed n n' e true x told held = record {
 }
 Certificates-pushed n n' e false x told held = record {
   entered = λ h g has. entered h g (pushed_value n.certs.held x h g (subst (λ xs. value_at xs h ≡ Some g) held has));
-  own = λ s g stores told_g none. own s.height g (inside_some x.value g (sym told ∙ told_g)) (pushed_new n.certs.held x s.height none);
+  own = λ s g stores told_g none. own s.height g (same_Some x.value g (sym told ∙ told_g)) (pushed_new n.certs.held x s.height none);
 }
   where
     entered : (h : ℕ) (g : Finalization) → (value_at n.certs.held h ≡ Some g) ⊎ (x.value ≡ g) → (value_at n.certs.held h ≡ Some g) ⊎ IsCertFrom n e (record { height = h; value = g })
@@ -392,6 +390,18 @@ module _ {P E : Type 0} (config : Config) (chain : Chain) (a : Seen P E) (f : Fi
       abbrev pub after : Seen P E
       after = cached_as a now
 
+      -- it serves none, and subscribes to none
+      unmoved : event_fault config n e ≡ None → HasNoPart config n e
+      unmoved no_fault = record {
+        no_effect = refl;
+        no_query = refl;
+        no_fault = no_fault;
+        sends = refl;
+        answers = λ lowest. ap (λ xs. xs ++ []) (serves_none (at_hand n f.payload));
+        subscriptions = ap (λ xs. xs ++ []) (leaves_none (at_hand n f.payload));
+        no_syncs = λ n'. refl;
+      }
+
       -- what it makes of the cache: the finalization is put, and these rounds prune
       moves : (rs : List Round) (m : Seen P E) → met_rounds n (met_finalization n e) ≡ rs → m.held.witnessed ≡ (fold (with_witness config.retention) (record { last = a.held.witnessed; prunes = [] }) rs).last → PrunesCacheBy (pruned_by config.retention a.held.witnessed rs) after.held m.held → MovesCache config chain a m e buffer waiting
       moves rs m met last pruned = moves_reported config chain a m f now buffer waiting (pruned_by config.retention a.held.witnessed rs) cached loaded caches final (sym (ap (λ w. w.prunes) (witnessed_by rs met))) (last ∙ sym (ap (λ w. w.last) (witnessed_by rs met))) (subst (λ h. PrunesCacheBy (pruned_by config.retention a.held.witnessed rs) h m.held) (sym caches.same) pruned)
@@ -409,40 +419,28 @@ module _ {P E : Type 0} (config : Config) (chain : Chain) (a : Seen P E) (f : Fi
       -- a finalization whose block isn't at hand changes nothing but the cache
       pub Reaches-absent : (m : Seen P E) → IsRead after m → IsNested a.held.blocks → IsNested a.held.certs → at_hand n f.payload ≡ None → Reaches config chain a e buffer waiting [] m
       Reaches-absent m same nested certs_nested absent = subst (Reaches config chain a e buffer waiting []) (sym same) (record {
-        no_effect = refl;
-        kept = refl;
-        next_ack = refl;
-        next_sync = refl;
-        sizes = refl;
-        processed = refl;
-        cutoff = sym (cutoff_by [] met);
-        blocks = KeepsFrom-same _ a.held.blocks;
-        certs = KeepsFrom-same _ a.held.certs;
-        put_blocks = [];
-        put_certs = [];
-        blocks_grown = Grown-same a.held.blocks a.held.blocks nested refl;
-        certs_grown = Grown-same a.held.certs a.held.certs certs_nested refl;
-        of_blocks = tt;
-        of_certs = tt;
-        own_blocks = λ x has. nothing_put x has;
-        own_certs = λ x has. nothing_put x has;
-        certificates = Certificates-same a after e buffer waiting refl;
-        writes = written.0;
+        comes = record {
+          no_part = unmoved (ap (λ s. storing_fault n s no_floor) stores);
+          kept = refl;
+          next_ack = refl;
+          next_sync = refl;
+          sizes = refl;
+          processed = refl;
+          cutoff = sym (cutoff_by [] met);
+          blocks = PutsOwn-same _ _ _ a.held.blocks a.held.blocks nested refl;
+          certs = PutsOwn-same _ _ _ a.held.certs a.held.certs certs_nested refl;
+          certificates = Certificates-same a after e buffer waiting refl;
+          writes = written.0;
+          are_tips = tt;
+          tips_rise = refl;
+          tips_chain = tt;
+          cache = moves [] (with_watches after m.held.watches) met refl (PrunesCacheBy-none after.held (with_watches after m.held.watches).held refl refl refl);
+          stored = subst (λ s. IfSome s (IsStored (node_of after buffer waiting))) (sym stores) tt;
+          stored_late = subst (λ s. IfSome s (IsStoredLate n no_floor (node_of after buffer waiting))) (sym stores) tt;
+        };
         no_repair = written.1;
         unblocked = written.2;
         enters = EntersAt-same _ n (node_of after buffer waiting) refl refl;
-        are_tips = tt;
-        tips_rise = refl;
-        tips_chain = tt;
-        cache = moves [] (with_watches after m.held.watches) met refl (PrunesCacheBy-none after.held (with_watches after m.held.watches).held refl refl refl);
-        stored = subst (λ s. IfSome s (IsStored (node_of after buffer waiting))) (sym stores) tt;
-        stored_late = subst (λ s. IfSome s (IsStoredLate n no_floor (node_of after buffer waiting))) (sym stores) tt;
-        no_query = refl;
-        no_fault = ap (λ s. storing_fault n s no_floor) stores;
-        sends = refl;
-        answers = λ lowest. ap (λ xs. xs ++ []) (serves_none (at_hand n f.payload));
-        subscriptions = ap (λ xs. xs ++ []) (leaves_none (at_hand n f.payload));
-        no_syncs = λ n'. refl;
       })
         where
           met : met_rounds n (met_finalization n e) ≡ []
@@ -493,40 +491,40 @@ module _ {P E : Type 0} (config : Config) (chain : Chain) (a : Seen P E) (f : Fi
       -- a block above the processed height is put with its finalization
       pub Reaches-stored : (b : Block) (m : Seen P E) → Grown a.held.blocks (at_own_height b ∷ []) m.held.blocks → Grown a.held.certs (at_height b.height f ∷ []) m.held.certs → at_hand n f.payload ≡ Some b → IsTrue (nat_lt (height_of a.held.processed) b.height) → PutsAbove config.inner after f b m → Reaches config chain a e buffer waiting (tip_reports a.life.tip f b) m
       Reaches-stored b m blocks_grown certs_grown is above puts = record {
-        no_effect = refl;
-        kept = ap (λ s. s.life.out) puts.same;
-        next_ack = ap (λ s. s.life.next_ack) puts.same;
-        next_sync = ap (λ s. s.held.writes.next_sync) puts.same;
-        sizes = ap (λ s. s.life.sizes) puts.same;
-        processed = ap (λ s. s.held.processed) puts.same;
-        cutoff = ap (λ s. s.held.cutoff) puts.same ∙ sym (cutoff_by [] met);
-        blocks = KeepsFrom-put _ _ _ _ _ puts.blocks;
-        certs = KeepsFrom-put _ _ _ _ _ puts.certs;
-        put_blocks = at_own_height b ∷ [];
-        put_certs = at_height b.height f ∷ [];
-        blocks_grown = blocks_grown;
-        certs_grown = certs_grown;
-        of_blocks = ((block-final b is).1, tt);
-        of_certs = (finalizes b is, tt);
-        own_blocks = λ x has. brought_from n e x (is ∙ ap (λ (y : At Block). Some y.value) (only_one (at_own_height b) x has));
-        own_certs = λ x has. told_from n e x (ap (λ (y : At Finalization). Some y.value) (only_one (at_height b.height f) x has));
-        certificates = Certificates-pushed n (node_of m buffer waiting) e (is_certified config.inner a.held.certs.held b.height (config.inner f.payload)) (at_height b.height f) refl puts.certs.held;
-        writes = (Writes-stored b m is above puts).0;
+        comes = record {
+          no_part = unmoved (ap (λ s. storing_fault n s no_floor) storing ∙ ap (λ (c : Bool). if c then Some (height_limit b.height) else None) (no_limit (nat_lt (height_of a.held.processed) b.height) b.height (not_last b is)));
+          kept = ap (λ s. s.life.out) puts.same;
+          next_ack = ap (λ s. s.life.next_ack) puts.same;
+          next_sync = ap (λ s. s.held.writes.next_sync) puts.same;
+          sizes = ap (λ s. s.life.sizes) puts.same;
+          processed = ap (λ s. s.held.processed) puts.same;
+          cutoff = ap (λ s. s.held.cutoff) puts.same ∙ sym (cutoff_by [] met);
+          blocks = record {
+            keeps = KeepsFrom-put _ _ _ _ _ puts.blocks;
+            put = at_own_height b ∷ [];
+            grown = blocks_grown;
+            of_chain = ((block-final b is).1, tt);
+            own = λ x has. brought_from n e x (is ∙ ap (λ (y : At Block). Some y.value) (only_one (at_own_height b) x has));
+          };
+          certs = record {
+            keeps = KeepsFrom-put _ _ _ _ _ puts.certs;
+            put = at_height b.height f ∷ [];
+            grown = certs_grown;
+            of_chain = (finalizes b is, tt);
+            own = λ x has. told_from n e x (ap (λ (y : At Finalization). Some y.value) (only_one (at_height b.height f) x has));
+          };
+          certificates = Certificates-pushed n (node_of m buffer waiting) e (is_certified config.inner a.held.certs.held b.height (config.inner f.payload)) (at_height b.height f) refl puts.certs.held;
+          writes = (Writes-stored b m is above puts).0;
+          are_tips = tip_reports-tips a.life.tip f b;
+          tips_rise = subst (TipsFrom a.life.tip (tip_reports a.life.tip f b)) (sym (ap (λ s. s.life.tip) puts.same)) (tip_reports-rise a.life.tip f b);
+          tips_chain = tip_reports-chain chain a.life.tip f b (block-final b is).0 (block-final b is).1;
+          cache = moves [] m met (ap (λ s. s.held.witnessed) puts.same) (PrunesCacheBy-none after.held m.held (ap (λ s. s.held.cache) puts.same) (ap (λ s. s.held.lowest) puts.same) (ap (λ s. s.held.lowests) puts.same));
+          stored = subst (λ s. IfSome s (IsStored (node_of m buffer waiting))) (sym storing) stored;
+          stored_late = subst (λ s. IfSome s (IsStoredLate n no_floor (node_of m buffer waiting))) (sym storing) (λ with low held. absurd (let high : height_of a.held.processed < b.height = above_from (height_of a.held.processed) b.height above in omega arith));
+        };
         no_repair = (Writes-stored b m is above puts).1;
         unblocked = (Writes-stored b m is above puts).2;
         enters = EntersAt-stored;
-        are_tips = tip_reports-tips a.life.tip f b;
-        tips_rise = subst (TipsFrom a.life.tip (tip_reports a.life.tip f b)) (sym (ap (λ s. s.life.tip) puts.same)) (tip_reports-rise a.life.tip f b);
-        tips_chain = tip_reports-chain chain a.life.tip f b (block-final b is).0 (block-final b is).1;
-        cache = moves [] m met (ap (λ s. s.held.witnessed) puts.same) (PrunesCacheBy-none after.held m.held (ap (λ s. s.held.cache) puts.same) (ap (λ s. s.held.lowest) puts.same) (ap (λ s. s.held.lowests) puts.same));
-        stored = subst (λ s. IfSome s (IsStored (node_of m buffer waiting))) (sym storing) stored;
-        stored_late = subst (λ s. IfSome s (IsStoredLate n no_floor (node_of m buffer waiting))) (sym storing) (λ with low held. absurd (let high : height_of a.held.processed < b.height = above_from (height_of a.held.processed) b.height above in omega arith));
-        no_query = refl;
-        no_fault = ap (λ s. storing_fault n s no_floor) storing ∙ ap (λ (c : Bool). if c then Some (height_limit b.height) else None) (no_limit (nat_lt (height_of a.held.processed) b.height) b.height (not_last b is));
-        sends = refl;
-        answers = λ lowest. ap (λ xs. xs ++ []) (serves_none (at_hand n f.payload));
-        subscriptions = ap (λ xs. xs ++ []) (leaves_none (at_hand n f.payload));
-        no_syncs = λ n'. refl;
       }
         where
           met : met_rounds n (met_finalization n e) ≡ []
@@ -590,40 +588,34 @@ module _ {P E : Type 0} (config : Config) (chain : Chain) (a : Seen P E) (f : Fi
       -- with these tips
       Reaches-told : IsPartition config.epochs → (b : Block) (tips : List Report) (m : Seen P E) → IsNested a.held.blocks → IsNested a.held.certs → Grown a.held.certs (at_height b.height f ∷ []) m.held.certs → at_hand n f.payload ≡ Some b → IsFalse (nat_lt (height_of a.held.processed) b.height) → AreTips tips → TipsFrom a.life.tip tips m.life.tip → AreTipsOf chain tips → a.life.tip ≤ m.life.tip → (IsTrue (lacks_finalization a.held b) → b.height ≤ m.life.tip) → IsNoted m → IsPruned m → PutsLate b m.held.certs → Reaches config chain a e buffer waiting tips m
       Reaches-told partition b tips m blocks_nested certs_nested grown is low only rise of_chain rises below_tip same pruned certs = record {
-        no_effect = refl;
-        kept = ap (λ s. s.life.out) same;
-        next_ack = ap (λ s. s.life.next_ack) same;
-        next_sync = ap (λ s. s.held.writes.next_sync) same;
-        sizes = ap (λ s. s.life.sizes) same;
-        processed = processed;
-        cutoff = ap (λ s. s.held.cutoff) same ∙ sym (cutoff_by (f.round ∷ []) met);
-        blocks = subst (KeepsFrom _ a.held.blocks) (sym blocks) (KeepsFrom-same _ a.held.blocks);
-        certs = KeepsFrom-due _ _ _ _ _ _ certs_nested certs;
-        put_blocks = [];
-        put_certs = at_height b.height f ∷ [];
-        blocks_grown = Grown-same a.held.blocks m.held.blocks blocks_nested blocks;
-        certs_grown = grown;
-        of_blocks = tt;
-        of_certs = (finalizes b is, tt);
-        own_blocks = λ x has. nothing_put x has;
-        own_certs = λ x has. told_from n e x (ap (λ (y : At Finalization). Some y.value) (only_one (at_height b.height f) x has));
-        certificates = Certificates-put n (node_of m buffer waiting) e (lacks_finalization a.held b) (is_certified config.inner a.held.certs.held b.height (config.inner f.payload)) (at_height b.height f) refl certs;
-        writes = written.0;
+        comes = record {
+          no_part = unmoved (ap (λ s. storing_fault n s no_floor) storing ∙ ap (λ (c : Bool). if c && b.height == last_height then Some (height_limit b.height) else None) low);
+          kept = ap (λ s. s.life.out) same;
+          next_ack = ap (λ s. s.life.next_ack) same;
+          next_sync = ap (λ s. s.held.writes.next_sync) same;
+          sizes = ap (λ s. s.life.sizes) same;
+          processed = processed;
+          cutoff = ap (λ s. s.held.cutoff) same ∙ sym (cutoff_by (f.round ∷ []) met);
+          blocks = PutsOwn-same _ _ _ a.held.blocks m.held.blocks blocks_nested blocks;
+          certs = record {
+            keeps = KeepsFrom-due _ _ _ _ _ _ certs_nested certs;
+            put = at_height b.height f ∷ [];
+            grown = grown;
+            of_chain = (finalizes b is, tt);
+            own = λ x has. told_from n e x (ap (λ (y : At Finalization). Some y.value) (only_one (at_height b.height f) x has));
+          };
+          certificates = Certificates-put n (node_of m buffer waiting) e (lacks_finalization a.held b) (is_certified config.inner a.held.certs.held b.height (config.inner f.payload)) (at_height b.height f) refl certs;
+          writes = written.0;
+          are_tips = only;
+          tips_rise = rise;
+          tips_chain = of_chain;
+          cache = moves (f.round ∷ []) m met (ap (λ s. s.held.witnessed) same ∙ last_witnessed config.retention a.held.witnessed f.round) pruned;
+          stored = subst (λ s. IfSome s (IsStored (node_of m buffer waiting))) (sym storing) stored;
+          stored_late = subst (λ s. IfSome s (IsStoredLate n no_floor (node_of m buffer waiting))) (sym storing) (λ with at_most has. due_height _ (has_height a.held.blocks.held b.height) a.held.certs (at_height b.height f) m.held.certs (λ ignored. cert_there b is ignored) certs has);
+        };
         no_repair = written.1;
         unblocked = written.2;
         enters = EntersAt-late;
-        are_tips = only;
-        tips_rise = rise;
-        tips_chain = of_chain;
-        cache = moves (f.round ∷ []) m met (ap (λ s. s.held.witnessed) same ∙ last_witnessed config.retention a.held.witnessed f.round) pruned;
-        stored = subst (λ s. IfSome s (IsStored (node_of m buffer waiting))) (sym storing) stored;
-        stored_late = subst (λ s. IfSome s (IsStoredLate n no_floor (node_of m buffer waiting))) (sym storing) (λ with at_most has. due_height _ (has_height a.held.blocks.held b.height) a.held.certs (at_height b.height f) m.held.certs (λ ignored. cert_there b is ignored) certs has);
-        no_query = refl;
-        no_fault = ap (λ s. storing_fault n s no_floor) storing ∙ ap (λ (c : Bool). if c && b.height == last_height then Some (height_limit b.height) else None) low;
-        sends = refl;
-        answers = λ lowest. ap (λ xs. xs ++ []) (serves_none (at_hand n f.payload));
-        subscriptions = ap (λ xs. xs ++ []) (leaves_none (at_hand n f.payload));
-        no_syncs = λ n'. refl;
       }
         where
           met : met_rounds n (met_finalization n e) ≡ f.round ∷ []

@@ -3,6 +3,7 @@ use Rattle.std.proofs.Common.{◌≡◌, ℕ, zero, suc, List, [], ◌∷◌, �
 use Rattle.std.specs.Option.{option_or}
 use Rattle.std.specs.List.{AllByRecursion, filter_map}
 use Rattle.std.proofs.lemmas.List.Elements.{Contains-append_left, Contains-append_right}
+use Rattle.std.proofs.lemmas.Option.{same_Some}
 use Rattle.std.proofs.lemmas.Slice.Eq.{bytes_eq-Decides}
 use Rattle.mar_cert.specs.Block.{Block}
 use Rattle.mar_store.specs.Kept.{At, value_at}
@@ -37,10 +38,7 @@ same_bytes xs ys e = (bytes_eq-Decides xs ys).1 e
 
 pub Contains-slice_get : {T : Type 0} (xs : List T) (i : ℕ) (x : T) → slice_get xs i ≡ Some x → Contains xs x
 Contains-slice_get [] i x at = absurd cc
-Contains-slice_get {T = T} (y ∷ xs) zero x at = (zero, omega arith, inside at)
-  where
-    inside : ◌≡◌ {A = Option T} (Some y) (Some x) → y ≡ x
-    inside e = cc
+Contains-slice_get (y ∷ xs) zero x at = (zero, omega arith, same_Some y x at)
 Contains-slice_get (y ∷ xs) (suc i) x at = let has = Contains-slice_get xs i x at in (suc has.0, omega arith, has.2)
 
 pub find-append : {T : Type 0} (test : T → Bool) (xs ys : List T) → find test (xs ++ ys) ≡ option_or (find test xs) (find test ys)

@@ -190,7 +190,7 @@ HandsSoFar-first start told blocks certs = record {
   counted = refl;
 }
 
-length_out : (xs : List HandedBlock) → length (map outstanding_of xs) ≡ length xs
+pub length_out : (xs : List HandedBlock) → length (map outstanding_of xs) ≡ length xs
 length_out [] = refl
 length_out (x ∷ xs) = ap (λ k. suc k) (length_out xs)
 

@@ -1,9 +1,11 @@
 -- The asks that are open with peers stay honest: a `Finalized` annotation stands on a chain block's commitment alone.
 use Rattle.std.proofs.Common.{◌≡◌, ◌⊎◌, inl, inr, ⊎_elim, ◌-◌, ℕ, List, [], ◌∷◌, ◌++◌, Bool, true, false, not, ◌||◌, if◌then◌else◌, Option, Some, None, IsTrue, filter, fold, refl, subst}
+use Rattle.std.proofs.lemmas.Bool.{or_right}
 use Rattle.std.specs.Bool.{⊤}
 use Rattle.std.specs.List.{AllByRecursion, list_any}
 use Rattle.mar_types.specs.Epochs.{Epochs}
 use Rattle.mar_types.specs.Round.{Round}
+use Rattle.mar_key.specs.Processed.{Processed}
 use Rattle.mar_key.specs.Keys.{Annotation, Call, Key, Retain, above_height, above_round, annotation_eq, block_key, certified_at, fetch, finalized_by_height, finalized_by_round, for_notarization, untrusted_at, finalized_key, is_denied, is_finalized, key_eq, notarized_key, retain}
 use Rattle.mar_key.specs.Cutoff.{Cutoff, covers, cutoff_le, greatest_of}
 use Rattle.mar_model.specs.Acks.{Outstanding}
@@ -36,10 +38,6 @@ HonestAsk-fewer chain (notarized_key r) more fewer has honest = tt
 or_more : (c a d : Bool) → (a ≡ true → d ≡ true) → (c || a) ≡ true → (c || d) ≡ true
 or_more true a d more e = refl
 or_more false a d more e = more e
-
-or_right : (c d : Bool) → d ≡ true → (c || d) ≡ true
-or_right true d e = refl
-or_right false d e = e
 
 any-filter : (test keep : Annotation → Bool) (xs : List Annotation) → list_any test (filter keep xs) ≡ true → list_any test xs ≡ true
 any-filter test keep [] e = e
@@ -167,8 +165,8 @@ notarized_asks-honest chain n r = by (covers n.cutoff r)
     by true = tt
     by false = (tt, tt)
 
-height_asks-honest : (chain : Chain) (n : Node) (key : Key) (annotation : Annotation) (h : ℕ) (targets : Option (List ℕ)) → HonestAsk chain key (annotation ∷ []) → AllByRecursion (HonestCall chain) (height_asks n key annotation h targets)
-height_asks-honest chain n key annotation h targets honest = by (permits_height n.processed h)
+height_asks-honest : (chain : Chain) (processed : Option Processed) (key : Key) (annotation : Annotation) (h : ℕ) (targets : Option (List ℕ)) → HonestAsk chain key (annotation ∷ []) → AllByRecursion (HonestCall chain) (height_asks processed key annotation h targets)
+height_asks-honest chain processed key annotation h targets honest = by (permits_height processed h)
   where
     by : (b : Bool) → AllByRecursion (HonestCall chain) (if b then fetch key annotation targets ∷ [] else [])
     by true = (honest, tt)
@@ -178,9 +176,9 @@ reported_asks-honest : (chain : Chain) (n : Node) (f : Finalization) (b : Option
 reported_asks-honest chain n f None final = want_asks-honest chain n.cutoff f.round f.payload final
 reported_asks-honest chain n f (Some b) final = tt
 
-hint_asks-honest : (chain : Chain) (n : Node) (h : ℕ) (peers : List ℕ) (f : Option Finalization) → AllByRecursion (HonestCall chain) (hint_asks n h peers f)
-hint_asks-honest chain n h peers None = height_asks-honest chain n (finalized_key h) (finalized_by_height h) h (Some peers) tt
-hint_asks-honest chain n h peers (Some f) = tt
+pub hint_asks-honest : (chain : Chain) (processed : Option Processed) (h : ℕ) (peers : List ℕ) (f : Option Finalization) → AllByRecursion (HonestCall chain) (hint_asks processed h peers f)
+hint_asks-honest chain processed h peers None = height_asks-honest chain processed (finalized_key h) (finalized_by_height h) h (Some peers) tt
+hint_asks-honest chain processed h peers (Some f) = tt
 
 notarized_hint_asks-honest : (chain : Chain) (n : Node) (r : Round) (b : Option Block) → AllByRecursion (HonestCall chain) (notarized_hint_asks n r b)
 notarized_hint_asks-honest chain n r None = notarized_asks-honest chain n r
@@ -190,7 +188,7 @@ fallback_asks-honest : (chain : Chain) (n : Node) (c : List ℕ) (fallback : Fal
 fallback_asks-honest chain n c fallback (Some b) = tt
 fallback_asks-honest chain n c wait None = tt
 fallback_asks-honest chain n c (fetch_by_round r) None = notarized_asks-honest chain n r
-fallback_asks-honest chain n c (fetch_by_commitment h) None = height_asks-honest chain n (block_key c) (if is_known n.certified h c then certified_at h else untrusted_at h) h None (unfinalized (is_known n.certified h c))
+fallback_asks-honest chain n c (fetch_by_commitment h) None = height_asks-honest chain n.processed (block_key c) (if is_known n.certified h c then certified_at h else untrusted_at h) h None (unfinalized (is_known n.certified h c))
   where
     unfinalized : (b : Bool) → HonestAsk chain (block_key c) ((if b then certified_at h else untrusted_at h) ∷ [])
     unfinalized true = λ some. absurd cc
@@ -198,7 +196,7 @@ fallback_asks-honest chain n c (fetch_by_commitment h) None = height_asks-honest
 
 told_asks-honest : (chain : Chain) (n : Node) (e : Event) → ReportsFinalized chain e → AllByRecursion (HonestCall chain) (told_asks n e)
 told_asks-honest chain n (message_told t (report_finalization f)) final = reported_asks-honest chain n f (at_hand n f.payload) final
-told_asks-honest chain n (message_told t (hint_finalized h peers)) final = hint_asks-honest chain n h peers (value_at n.certs.held h)
+told_asks-honest chain n (message_told t (hint_finalized h peers)) final = hint_asks-honest chain n.processed h peers (value_at n.certs.held h)
 told_asks-honest chain n (message_told t (hint_notarized r d)) final = notarized_hint_asks-honest chain n r (at_hand n d)
 told_asks-honest chain n (message_told t (subscribe_digest d fallback)) final = fallback_asks-honest chain n d fallback (at_hand_digest n d)
 told_asks-honest chain n (message_told t (subscribe_commitment c fallback)) final = fallback_asks-honest chain n c fallback (at_hand n c)

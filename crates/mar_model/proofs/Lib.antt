@@ -14,7 +14,6 @@ pub mod StoreLosses
 pub mod CacheChanges
 pub mod EntryLists
 pub mod CacheSteps
-pub mod CacheBeside
 pub mod CachePrunes
 pub mod CacheOver
 pub mod Passing
@@ -43,8 +42,6 @@ pub mod CacheEvents
 pub mod KeptEach
 pub mod CertifiedBlocks
 pub mod KeptEvents
-pub mod CacheSyncEvent
-pub mod KeptPromises
 pub mod Idle
 pub mod Queries
 pub mod ProgressPromises
@@ -76,18 +73,14 @@ pub mod StartPass
 pub mod Doing
 pub mod Planned
 pub mod Drawn
-pub mod Found
 pub mod Living
 pub mod SyncPromise
 pub mod Since
 pub mod Owning
 pub mod Owns
 pub mod CutsRan
-pub mod Flattened
 pub mod Filling
-pub mod FillsOwned
 pub mod StartCuts
-pub mod StartBroke
 pub mod EventCuts
 pub mod PromisedQueries
 pub mod PromisedKeeping

@@ -3,7 +3,7 @@ use Rattle.std.specs.Prelude.{⊤}
 use Rattle.std.specs.List.{AllByRecursion}
 use Rattle.std.proofs.Common.{Option, None, Some, ◌≡◌, ◌⊎◌, inl, inr, ◌∷◌, [], List, Bool, true, false, cond, nat_lt, length, ℕ, zero, suc, ◌+◌, ◌-◌, ◌^◌, ◌<◌, ◌≤◌, arith, refl, sym, ◌∙◌, ap, subst}
 use Rattle.std.proofs.lemmas.Bool.Decides.{nat_tests}
-use Rattle.mar_model.specs.Faults.{Fault, TicketKind, ack_kind, corrupt, damaged, dropped_ack, floor_epoch_unavailable, floor_invalid, floor_parent_mismatch, genesis_height, genesis_mismatch, height_limit, is_by_value, store_fault, sync_kind, ticket_limit, unbacked, want_of_memory}
+use Rattle.mar_model.specs.Faults.{Fault, TicketKind, ack_kind, is_by_value, store_fault, sync_kind, ticket_limit, want_of_memory}
 use Rattle.mar_model.specs.Held.{ArePassed, Ending, IsArchiveFault, IsEndedBy, IsNoStores, IsUsual, Written, ended_on, nothing_written}
 use Rattle.mar_model.specs.Step.{HandedBlock}
 use Rattle.mar_model.specs.Held.{Held, Seen}
@@ -12,7 +12,7 @@ use Rattle.mar_model.specs.Promise.{Heard}
 use Rattle.mar_model.proofs.Cutting.{usual_from_archive}
 use Rattle.mar_model.proofs.Growing.{Grew-refl, WithinWritten-refl}
 use Rattle.mar_model.proofs.Passing.{ArePassed-refl, ArePassed-then, FailsBy-nothing, FailsBy-then}
-use Rattle.mar_model.specs.Acts.{Act, AreLawful, IsKeepFault, Joins, LosesOver, reply, ask, caches, finish_kept, finish_sync, keep_certified, keep_notarization, keep_notarized, keep_verified, keeps_for, load_cache, mark, note, process, progresses, put_finalization, says, send, start_sync, store, store_block, store_late, stores, sync_progress, sync_writes, tell, IsDone, IsLost}
+use Rattle.mar_model.specs.Acts.{Act, AreLawful, IsKeepFault, Joins, LosesOver, reply, ask, caches, finish_kept, finish_sync, keep_certified, keep_notarization, keep_notarized, keep_verified, keeps_for, load_cache, mark, note, process, progresses, put_finalization, says, send, start_sync, store, store_block, store_late, stores, sync_progress, sync_writes, tell, IsLost}
 use Rattle.mar_model.specs.Cached.{Cached}
 use Rattle.mar_gate.specs.Writing.{Writing}
 use Rattle.mar_model.specs.Ran.{Breaks, BreaksActs, DoesTask, FailsTask, Reads, Runs, RunsActs, Task, dispatches, does, ends, repairs}
@@ -27,23 +27,17 @@ windows (does a ∷ plan) w = windows plan w
 windows (repairs buffer ∷ plan) w = windows plan w
 windows (ends fault ∷ plan) w = windows plan w
 
+abbrev pub act_syncs : Act → ℕ
+act_syncs (stores start_sync) = 1
+act_syncs (caches (keep_notarization f)) = 1
+act_syncs (caches (keep_notarized r b)) = 1
+act_syncs (keeps_for (keep_verified r b t)) = 1
+act_syncs (keeps_for (keep_certified r b t)) = 1
+act_syncs _ = 0
+
 abbrev pub syncs : List Task → ℕ
 syncs [] = 0
-syncs (does (stores start_sync) ∷ plan) = 1 + syncs plan
-syncs (does (stores (store f b)) ∷ plan) = syncs plan
-syncs (does (stores (store_block b)) ∷ plan) = syncs plan
-syncs (does (stores (store_late f b)) ∷ plan) = syncs plan
-syncs (does (stores (finish_sync t)) ∷ plan) = syncs plan
-syncs (does (stores sync_writes) ∷ plan) = syncs plan
-syncs (does (caches (put_finalization f)) ∷ plan) = syncs plan
-syncs (does (caches (keep_notarization f)) ∷ plan) = 1 + syncs plan
-syncs (does (caches (keep_notarized r b)) ∷ plan) = 1 + syncs plan
-syncs (does (caches load_cache) ∷ plan) = syncs plan
-syncs (does (keeps_for (keep_verified r b t)) ∷ plan) = 1 + syncs plan
-syncs (does (keeps_for (keep_certified r b t)) ∷ plan) = 1 + syncs plan
-syncs (does (keeps_for (finish_kept t)) ∷ plan) = syncs plan
-syncs (does (progresses a) ∷ plan) = syncs plan
-syncs (does (says a) ∷ plan) = syncs plan
+syncs (does a ∷ plan) = syncs plan + act_syncs a
 syncs (repairs buffer ∷ plan) = syncs plan
 syncs (dispatches ∷ plan) = syncs plan
 syncs (ends fault ∷ plan) = syncs plan
@@ -75,18 +69,23 @@ Keeps-then acks starts acks' starts' s t u first second = record {
 joined-passed : (s t : Scene) (written : Written) → Joins s.held written t.held → AreLawful s.held → ArePassed s.held.watches t.held.watches
 joined-passed s t written joins law = (joins s.held written (Grew-refl s.held written law.blocks law.certs) (WithinWritten-refl written)).passed
 
--- where the stores are others, and the window as it was
-over : (s t : Scene) (same : t.life ≡ s.life) → (law : AreLawful s.held → AreLawful t.held) → (AreLawful s.held → ArePassed s.held.watches t.held.watches) → (starts : ℕ) → t.held.writes.next_sync ≤ s.held.writes.next_sync + starts → t.held.intact ≡ s.held.intact → (s.held.cache.loaded ≡ true → t.held.cache.loaded ≡ true) → Keeps 0 starts s t
-over s t same law passed starts given intact loaded = record {
+-- where the stores are others, and the window keeps its tickets, its sizes and its tip
+moved : (s t : Scene) → t.life.next_ack ≡ s.life.next_ack → t.life.tip ≡ s.life.tip → t.life.sizes ≡ s.life.sizes → (AreLawful s.held → AreLawful t.held) → (AreLawful s.held → ArePassed s.held.watches t.held.watches)
+    → (starts : ℕ) → t.held.writes.next_sync ≤ s.held.writes.next_sync + starts → t.held.intact ≡ s.held.intact → (s.held.cache.loaded ≡ true → t.held.cache.loaded ≡ true) → Keeps 0 starts s t
+moved s t acks tip sizes law passed starts given intact loaded = record {
   lawful = law;
   passed = passed;
-  tickets = let is : t.life.next_ack ≡ s.life.next_ack = ap (λ l. l.next_ack) same in omega arith;
+  tickets = omega arith;
   sync_tickets = given;
-  rises = let is : t.life.tip ≡ s.life.tip = ap (λ l. l.tip) same in omega arith;
-  sizes = ap (λ l. l.sizes) same;
+  rises = omega arith;
+  sizes = sizes;
   intact = intact;
   loaded = loaded;
 }
+
+-- where the stores are others, and the window as it was
+over : (s t : Scene) (same : t.life ≡ s.life) → (law : AreLawful s.held → AreLawful t.held) → (AreLawful s.held → ArePassed s.held.watches t.held.watches) → (starts : ℕ) → t.held.writes.next_sync ≤ s.held.writes.next_sync + starts → t.held.intact ≡ s.held.intact → (s.held.cache.loaded ≡ true → t.held.cache.loaded ≡ true) → Keeps 0 starts s t
+over s t same = moved s t (ap (λ l. l.next_ack) same) (ap (λ l. l.tip) same) (ap (λ l. l.sizes) same)
 
 -- A TASK
 
@@ -154,62 +153,34 @@ module _ (inner : List ℕ → List ℕ) (s t : Scene) where
   Keeps-act (stores sync_writes) (is, joins, law, same) =
       let (kept, given) = synced_as s.held.writes.uncovered s.held t.held is in
       over s t (ap (λ (x : Scene). x.life) same) (λ before. law) (λ before. joined-passed s t _ joins before) 0 (let n : t.held.writes.next_sync ≡ s.held.writes.next_sync = given in omega arith) (ap (λ h. h.intact) kept) (λ was. ap (λ h. h.cache.loaded) kept ∙ was)
-  Keeps-act (progresses (note r)) (is, law, heard, same) = record {
-    lawful = λ before. law;
-    passed = λ before. is.passed;
-    tickets = let n : t.life.next_ack ≡ s.life.next_ack = ap (λ (x : Scene). x.life.next_ack) same in omega arith;
-    sync_tickets = let n : t.held.writes.next_sync ≡ s.held.writes.next_sync = ap (λ h. h.writes.next_sync) is.same in omega arith;
-    rises = let n : t.life.tip ≡ s.life.tip = ap (λ (x : Scene). x.life.tip) same in omega arith;
-    sizes = ap (λ (x : Scene). x.life.sizes) same;
-    intact = ap (λ h. h.intact) is.same;
-    loaded = λ was. is.prunes.loaded ∙ was;
-  }
+  Keeps-act (progresses (note r)) (is, law, heard, same) =
+      moved s t (ap (λ (x : Scene). x.life.next_ack) same) (ap (λ (x : Scene). x.life.tip) same) (ap (λ (x : Scene). x.life.sizes) same) (λ before. law) (λ before. is.passed) 0
+      (let n : t.held.writes.next_sync ≡ s.held.writes.next_sync = ap (λ h. h.writes.next_sync) is.same in omega arith) (ap (λ h. h.intact) is.same) (λ was. is.prunes.loaded ∙ was)
   Keeps-act (progresses (mark ticket m)) same = beside s t (ap (λ (x : Scene). x.held) same) (ap (λ (x : Scene). x.life.next_ack) same) (ap (λ (x : Scene). x.life.sizes) same) (let n : t.life.tip ≡ s.life.tip = ap (λ (x : Scene). x.life.tip) same in omega arith)
-  Keeps-act (progresses (process h)) (is, joins, law, heard, same) = record {
-    lawful = λ before. law;
-    passed = λ before. joined-passed s t _ joins before;
-    tickets = let n : t.life.next_ack ≡ s.life.next_ack = ap (λ (x : Scene). x.life.next_ack) same in omega arith;
-    sync_tickets = let n : t.held.writes.next_sync ≡ s.held.writes.next_sync = ap (λ h. h.writes.next_sync) is.same in omega arith;
-    rises = let n : t.life.tip ≡ s.life.tip = ap (λ (x : Scene). x.life.tip) same in omega arith;
-    sizes = ap (λ (x : Scene). x.life.sizes) same;
-    intact = ap (λ h. h.intact) is.same;
-    loaded = λ was. is.prunes.loaded ∙ was;
-  }
-  Keeps-act (progresses sync_progress) (is, law, same) = record {
-    lawful = λ before. law;
-    passed = λ before. is.passed;
-    tickets = let n : t.life.next_ack ≡ s.life.next_ack = ap (λ (x : Scene). x.life.next_ack) same in omega arith;
-    sync_tickets = let n : t.held.writes.next_sync ≡ s.held.writes.next_sync = ap (λ h. h.writes.next_sync) is.same in omega arith;
-    rises = let n : t.life.tip ≡ s.life.tip = ap (λ (x : Scene). x.life.tip) same in omega arith;
-    sizes = ap (λ (x : Scene). x.life.sizes) same;
-    intact = ap (λ h. h.intact) is.same;
-    loaded = λ was. ap (λ h. h.cache.loaded) is.same ∙ was;
-  }
+  Keeps-act (progresses (process h)) (is, joins, law, heard, same) =
+      moved s t (ap (λ (x : Scene). x.life.next_ack) same) (ap (λ (x : Scene). x.life.tip) same) (ap (λ (x : Scene). x.life.sizes) same) (λ before. law) (λ before. joined-passed s t _ joins before) 0
+      (let n : t.held.writes.next_sync ≡ s.held.writes.next_sync = ap (λ h. h.writes.next_sync) is.same in omega arith) (ap (λ h. h.intact) is.same) (λ was. is.prunes.loaded ∙ was)
+  Keeps-act (progresses sync_progress) (is, law, same) =
+      moved s t (ap (λ (x : Scene). x.life.next_ack) same) (ap (λ (x : Scene). x.life.tip) same) (ap (λ (x : Scene). x.life.sizes) same) (λ before. law) (λ before. is.passed) 0
+      (let n : t.held.writes.next_sync ≡ s.held.writes.next_sync = ap (λ h. h.writes.next_sync) is.same in omega arith) (ap (λ h. h.intact) is.same) (λ was. ap (λ h. h.cache.loaded) is.same ∙ was)
   Keeps-act (says (reply a)) same = beside s t (ap (λ (x : Scene). x.held) same) (ap (λ (x : Scene). x.life.next_ack) same) (ap (λ (x : Scene). x.life.sizes) same) (let n : t.life.tip ≡ s.life.tip = ap (λ (x : Scene). x.life.tip) same in omega arith)
   Keeps-act (says (tell r h d)) (heard, same) = beside s t (ap (λ (x : Scene). x.held) same) (ap (λ (x : Scene). x.life.next_ack) same) (ap (λ (x : Scene). x.life.sizes) same) (subst (λ (x : Scene). s.life.tip ≤ x.life.tip) (sym same) (risen_from s.life.tip h))
   Keeps-act (says (ask calls)) (heard, same) = beside s t (ap (λ (x : Scene). x.held) same) (ap (λ (x : Scene). x.life.next_ack) same) (ap (λ (x : Scene). x.life.sizes) same) (let n : t.life.tip ≡ s.life.tip = ap (λ (x : Scene). x.life.tip) same in omega arith)
   Keeps-act (says (send x)) (heard, same) = beside s t (ap (λ (y : Scene). y.held) same) (ap (λ (y : Scene). y.life.next_ack) same) (ap (λ (y : Scene). y.life.sizes) same) (let n : t.life.tip ≡ s.life.tip = ap (λ (y : Scene). y.life.tip) same in omega arith)
 
-  -- an act of a pass of repair
-  keeps_one : (a : Act) → IsPassAct a → IsDone inner a s t → Keeps 0 0 s t
-  keeps_one (stores (store f b)) is did = Keeps-act (stores (store f b)) did
-  keeps_one (stores (store_block b)) is did = Keeps-act (stores (store_block b)) did
-  keeps_one (says (tell r h d)) is did = Keeps-act (says (tell r h d)) did
-  keeps_one (says (ask calls)) is did = Keeps-act (says (ask calls)) did
-  keeps_one (stores (store_late f b)) is did = absurd is
-  keeps_one (stores start_sync) is did = absurd is
-  keeps_one (stores sync_writes) is did = absurd is
-  keeps_one (stores (finish_sync k)) is did = absurd is
-  keeps_one (says (send x)) is did = absurd is
-  keeps_one (says (reply a)) is did = absurd is
-  keeps_one (caches a) is did = absurd is
-  keeps_one (keeps_for a) is did = absurd is
-  keeps_one (progresses a) is did = absurd is
+-- an act of a pass of repair starts no sync
+starts_none : (a : Act) → IsPassAct a → syncs (does a ∷ []) ≡ 0
+starts_none (stores (store f b)) is = refl
+starts_none (stores (store_block b)) is = refl
+starts_none (says a) is = refl
+starts_none _ is = absurd is
 
 -- such acts in a row
 keeps_row : (inner : List ℕ → List ℕ) (acts : List Act) (s t : Scene) → AllByRecursion IsPassAct acts → RunsActs inner s acts t → Keeps 0 0 s t
 keeps_row inner [] s t are reads = Keeps-read s t reads
-keeps_row inner (a ∷ acts) s t are (mid, after, reads, did, runs) = Keeps-then 0 0 0 0 s after t (Keeps-then 0 0 0 0 s mid after (Keeps-read s mid reads) (keeps_one inner mid after a are.0 did)) (keeps_row inner acts after t are.1 runs)
+keeps_row inner (a ∷ acts) s t are (mid, after, reads, did, runs) =
+    let one : Keeps 0 0 mid after = subst (λ k. Keeps 0 k mid after) (starts_none a are.0) (Keeps-act inner mid after a did) in
+    Keeps-then 0 0 0 0 s after t (Keeps-then 0 0 0 0 s mid after (Keeps-read s mid reads) one) (keeps_row inner acts after t are.1 runs)
 
 module _ (inner : List ℕ → List ℕ) (s t : Scene) where
   Keeps-task : (k : Task) (w : ℕ) → s.life.sizes.window ≡ w → DoesTask inner k s t → Keeps (windows (k ∷ []) w) (syncs (k ∷ [])) s t
@@ -231,29 +202,11 @@ module _ (inner : List ℕ → List ℕ) (s t : Scene) where
 
 windows-one : (k : Task) (plan : List Task) (w : ℕ) → windows (k ∷ plan) w ≡ windows (k ∷ []) w + windows plan w
 windows-one (does a) plan w = omega arith
-windows-one (repairs buffer) plan w = omega arith
-windows-one dispatches plan w = omega arith
-windows-one (ends fault) plan w = omega arith
+windows-one _ plan w = omega arith
 
 syncs-one : (k : Task) (plan : List Task) → syncs (k ∷ plan) ≡ syncs (k ∷ []) + syncs plan
-syncs-one (does (stores start_sync)) plan = omega arith
-syncs-one (does (stores (store f b))) plan = omega arith
-syncs-one (does (stores (store_block b))) plan = omega arith
-syncs-one (does (stores (store_late f b))) plan = omega arith
-syncs-one (does (stores (finish_sync t))) plan = omega arith
-syncs-one (does (stores sync_writes)) plan = omega arith
-syncs-one (does (caches (put_finalization f))) plan = omega arith
-syncs-one (does (caches (keep_notarization f))) plan = omega arith
-syncs-one (does (caches (keep_notarized r b))) plan = omega arith
-syncs-one (does (caches load_cache)) plan = omega arith
-syncs-one (does (keeps_for (keep_verified r b t))) plan = omega arith
-syncs-one (does (keeps_for (keep_certified r b t))) plan = omega arith
-syncs-one (does (keeps_for (finish_kept t))) plan = omega arith
-syncs-one (does (progresses a)) plan = omega arith
-syncs-one (does (says a)) plan = omega arith
-syncs-one (repairs buffer) plan = omega arith
-syncs-one dispatches plan = omega arith
-syncs-one (ends fault) plan = omega arith
+syncs-one (does a) plan = omega arith
+syncs-one _ plan = omega arith
 
 Keeps-as : (a b a' b' : ℕ) (s t : Scene) → a ≡ a' → b ≡ b' → Keeps a b s t → Keeps a' b' s t
 Keeps-as a b a' b' s t is_a is_b keeps = subst (λ k. Keeps k b' s t) is_a (subst (λ k. Keeps a k s t) is_b keeps)
@@ -305,18 +258,7 @@ EndByValue (ends fault ∷ plan) = (is_by_value fault ≡ true) × EndByValue pl
 
 by_value_unstored : (fault : Fault) → is_by_value fault ≡ true → IsNoStores fault
 by_value_unstored (store_fault s) is = absurd (let no : false ≡ true = is in cc)
-by_value_unstored (damaged s h) is = tt
-by_value_unstored (dropped_ack h) is = tt
-by_value_unstored (floor_epoch_unavailable k) is = tt
-by_value_unstored (floor_invalid r) is = tt
-by_value_unstored (floor_parent_mismatch h p i) is = tt
-by_value_unstored (genesis_height h) is = tt
-by_value_unstored (genesis_mismatch c d) is = tt
-by_value_unstored (corrupt h c d) is = tt
-by_value_unstored (unbacked h) is = tt
-by_value_unstored (height_limit h) is = tt
-by_value_unstored (ticket_limit k) is = tt
-by_value_unstored want_of_memory is = tt
+by_value_unstored _ is = tt
 
 lost-cause : (s : Scene) (written : Written) (e : Ending) → AreLawful s.held → LosesOver s.held written e → IsEndedBy s.held.watches e
 lost-cause s written e law loses = (loses s.held written (Grew-refl s.held written law.blocks law.certs) (WithinWritten-refl written)).cause
@@ -357,30 +299,15 @@ module _ (s : Scene) (e : Ending) (heard : Heard) (law : AreLawful s.held) where
   Ends-act (says (ask calls)) (is, heard, same) = memory-ends is
   Ends-act (says (send x)) (is, heard, same) = memory-ends is
 
-  ends_one : (a : Act) → IsPassAct a → IsLost a s e heard → Ends 0 0 s e
-  ends_one (stores (store f b)) is lost = Ends-act (stores (store f b)) lost
-  ends_one (stores (store_block b)) is lost = Ends-act (stores (store_block b)) lost
-  ends_one (says (tell r h d)) is lost = Ends-act (says (tell r h d)) lost
-  ends_one (says (ask calls)) is lost = Ends-act (says (ask calls)) lost
-  ends_one (stores (store_late f b)) is lost = absurd is
-  ends_one (stores start_sync) is lost = absurd is
-  ends_one (stores sync_writes) is lost = absurd is
-  ends_one (stores (finish_sync k)) is lost = absurd is
-  ends_one (says (send x)) is lost = absurd is
-  ends_one (says (reply a)) is lost = absurd is
-  ends_one (caches a) is lost = absurd is
-  ends_one (keeps_for a) is lost = absurd is
-  ends_one (progresses a) is lost = absurd is
-
 -- a row of them broke
 ends_row : (inner : List ℕ → List ℕ) (acts : List Act) (s : Scene) (e : Ending) (heard : Heard) → AreLawful s.held → AllByRecursion IsPassAct acts → BreaksActs inner s acts e heard → Ends 0 0 s e
 ends_row inner [] s e heard law are fails = Ends-usual 0 0 s e (lost-cause s _ e law fails.loses) fails.usual
 ends_row inner (a ∷ acts) s e heard law are (inl fails) = Ends-usual 0 0 s e (lost-cause s _ e law fails.loses) fails.usual
 ends_row inner (a ∷ acts) s e heard law are (inr (mid, reads, inl lost)) =
     let read = Keeps-read s mid reads in
-    Ends-then 0 0 0 0 s mid e law read (ends_one mid e heard (read.lawful law) a are.0 lost)
+    Ends-then 0 0 0 0 s mid e law read (subst (λ k. Ends 0 k mid e) (starts_none a are.0) (Ends-act mid e heard (read.lawful law) a lost))
 ends_row inner (a ∷ acts) s e heard law are (inr (mid, reads, inr (after, did, breaks))) =
-    let both = Keeps-then 0 0 0 0 s mid after (Keeps-read s mid reads) (keeps_one inner mid after a are.0 did) in
+    let both = Keeps-then 0 0 0 0 s mid after (Keeps-read s mid reads) (subst (λ k. Keeps 0 k mid after) (starts_none a are.0) (Keeps-act inner mid after a did)) in
     Ends-then 0 0 0 0 s after e law both (ends_row inner acts after e heard (both.lawful law) are.1 breaks)
 
 module _ (inner : List ℕ → List ℕ) (s : Scene) (e : Ending) (heard : Heard) (law : AreLawful s.held) where

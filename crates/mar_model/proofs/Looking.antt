@@ -103,10 +103,7 @@ module _ {B N F : Type 0} (block : B → Block) (notarization : N → Notarizati
 
   block_of : (e : Entry B N F) → option_map block (block_in e) ≡ option_and_then cached_block (Some (plain e))
   block_of (OfFinalization f) = refl
-  block_of (Verified r b) = refl
-  block_of (Notarized r b) = refl
-  block_of (Certified k b) = refl
-  block_of (OfNotarization n) = refl
+  block_of _ = refl
 
   -- what was found is this entry, in which that is
   pub block_found : (p : Cached → Bool) (found : Option (Entry B N F)) (x : Entry B N F) (o : Option B) → found ≡ Some x → o ≡ block_in x → option_map plain found ≡ soonest p held → option_map block o ≡ option_and_then cached_block (soonest p held)
@@ -129,10 +126,7 @@ module _ {B N F : Type 0} (block : B → Block) (notarization : N → Notarizati
 
   finalization_of : (inner : List ℕ → List ℕ) (d : List ℕ) (x : Entry B N F) → is_for inner d (plain x) ≡ true → option_map (λ f. finalization_entry (finalization f)) (finalization_in x) ≡ Some (plain x)
   finalization_of inner d (OfFinalization f) passes = refl
-  finalization_of inner d (Verified s b) passes = absurd cc
-  finalization_of inner d (Notarized s b) passes = absurd cc
-  finalization_of inner d (Certified k b) passes = absurd cc
-  finalization_of inner d (OfNotarization n) passes = absurd cc
+  finalization_of inner d _ passes = absurd cc
 
   pub finalization_found : (inner : List ℕ → List ℕ) (d : List ℕ) (found : Option (Entry B N F)) (x : Entry B N F) (o : Option F) → found ≡ Some x → o ≡ finalization_in x → option_map plain found ≡ soonest (is_for inner d) held → option_map (λ f. finalization_entry (finalization f)) o ≡ soonest (is_for inner d) held
   finalization_found inner d found x o was gives is =

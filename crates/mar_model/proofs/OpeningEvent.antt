@@ -1,5 +1,5 @@
 -- An opening: a node that begins, or a cut before its start.
-use Rattle.std.proofs.Common.{◌≡◌, ◌⊎◌, inl, inr, ⊎_elim, ℕ, ◌+◌, ◌<◌, ◌==◌, ◌||◌, List, [], ◌∷◌, ◌++◌, if◌then◌else◌, nat_lt, Bool, true, false, Option, Some, None, IfSome, is_some, option_map, IsTrue, Contains, refl, sym, ◌∙◌, ap, ap₂, subst, arith, append-nil, eqb-true}
+use Rattle.std.proofs.Common.{◌≡◌, ◌⊎◌, inl, inr, ⊎_elim, ℕ, ◌+◌, ◌==◌, ◌||◌, List, [], ◌∷◌, ◌++◌, if◌then◌else◌, nat_lt, Bool, true, false, Option, Some, None, IfSome, is_some, option_map, IsTrue, Contains, refl, sym, ◌∙◌, ap, ap₂, subst, arith, append-nil, eqb-true}
 use Rattle.std.specs.Option.{option_or}
 use Rattle.std.proofs.lemmas.Bool.{eqb-false}
 use Rattle.std.proofs.lemmas.List.Elements.{Contains-append_cases}
@@ -30,11 +30,12 @@ use Rattle.mar_model.specs.Step.{nothing_made}
 use Rattle.mar_model.specs.Promise.{Begins, IsLawfulOpening, node_of, none_waiting}
 use Rattle.mar_model.specs.Sound.{IsSafePair, IsSound}
 use Rattle.mar_model.proofs.Cutting.{keeps_heights, never, only_one, usual_not_by_value}
+use Rattle.mar_model.proofs.EntryLists.{contains_none}
 use Rattle.mar_model.proofs.Filtered.{all_found_within}
 use Rattle.mar_model.proofs.Openings.{IsGoodInHeights-opened, IsSound-opened, processed_at-height}
 use Rattle.mar_model.proofs.Passing.{FailsBy-then}
 use Rattle.mar_model.proofs.Reopenings.{LosesOpening-then}
-use Rattle.mar_model.proofs.Soundness.{IsFrom, IsGood-from_parts, IsSafePair-kept, IsSound-moved}
+use Rattle.mar_model.proofs.Soundness.{IsGood-from_parts, IsSafePair-kept, IsSound-moved, from_none}
 use Rattle.mar_model.proofs.Tips.{newest_tip-high}
 
 -- JUDGED BY WHAT STANDS AT EACH HEIGHT
@@ -350,11 +351,7 @@ module _ (old : Remains) (luck : ℕ) (first : Held) (reopens : ReopensAs old lu
 -- A CUT
 
 safe_left : (chain : Chain) (sure left : List (At Block)) (p : Pair) → KeepsValues sure left → IsSafePair chain sure p → IsSafePair chain left p
-safe_left chain sure left p keeps safe = IsSafePair-kept chain 0 sure left p (λ h low there. keeps_heights sure left keeps h there) (from p.processed) safe
-  where
-    from : (o : Option ℕ) → IsFrom 0 o
-    from None = tt
-    from (Some h) = omega arith
+safe_left chain sure left p keeps safe = IsSafePair-kept chain 0 sure left p (λ h low there. keeps_heights sure left keeps h there) (from_none p.processed) safe
 
 module _ (config : Config) (chain : Chain) (old : Remains) (luck : ℕ) (begin : Begin) (asks : IsLawfulOpening config chain old.ended begin) (written : Written) (e : Ending) (lost : LosesOpening old written e) (own : (x : At Block) → Contains written.blocks x → begin ≡ from_genesis x.value) (of_chain : AreBlocksOf chain written.blocks) (no_certs : written.certs ≡ [])
     (may : (p : Pair) → Contains written.pairs p → OpeningPair config old.ended (picks_of old luck) begin p × IsSafePair chain e.remains.ended.blocks_sure p)
@@ -407,9 +404,6 @@ module _ (config : Config) (chain : Chain) (old : Remains) (luck : ℕ) (begin :
         by is (inl usual) = absurd (never (is_by_value e.fault) (usual_not_by_value e.fault usual) is)
         by is (inr found) = found
 
-no_pair : {X : Type 0} {T : Type 0} (x : X) → Contains [] x → T
-no_pair x has = absurd (let lt : has.0 < 0 = has.1 in omega arith)
-
 -- a lawful genesis is the chain's block at its height
 genesis_of : (config : Config) (chain : Chain) (old : Ended) (g : Block) → IsLawfulOpening config chain old (from_genesis g) → AreBlocksOf chain (at_own_height g ∷ [])
 genesis_of config chain old g asks = (subst (λ h. IsBlockAt chain h g) (sym (asks.lawful.heights 0 g (asks.genesis g refl))) (asks.genesis g refl), tt)
@@ -447,7 +441,7 @@ deriving_cause old luck first some more none e reopens (inr (holds, lost)) = Fai
 module _ (config : Config) (chain : Chain) (old : Remains) (luck : ℕ) (begin : Begin) where
   -- nothing was written yet
   pub cut_early : (e : Ending) → IsLawfulOpening config chain old.ended begin → LosesOpening old nothing_written e → IsUsual e.fault ⊎ IsOpeningFault old.ended (picks_of old luck) begin e.fault → CutsReopening config chain old.ended (picks_of old luck) begin nothing_made e.fault e.remains.ended
-  cut_early e asks lost kind = CutsReopening-lost config chain old luck begin asks nothing_written e lost (λ x has. no_pair x has) tt refl (λ p has. no_pair p has) kind
+  cut_early e asks lost kind = CutsReopening-lost config chain old luck begin asks nothing_written e lost (λ x has. contains_none x has) tt refl (λ p has. contains_none p has) kind
 
   module _ (first : Held) (reopens : ReopensAs old luck first) (g : Block) (is : begin ≡ from_genesis g) where
     genesis_own : (x : At Block) → Contains (at_own_height g ∷ []) x → begin ≡ from_genesis x.value
@@ -456,7 +450,7 @@ module _ (config : Config) (chain : Chain) (old : Remains) (luck : ℕ) (begin :
     -- block 0 may have been written
     pub cut_begun : (e : Ending) → IsLawfulOpening config chain old.ended begin → Loses first (written_block (at_own_height g)) e → IsUsual e.fault ⊎ IsBeginFault g first e.fault → CutsReopening config chain old.ended (picks_of old luck) begin nothing_made e.fault e.remains.ended
     cut_begun e asks lost kind =
-        CutsReopening-lost config chain old luck begin asks (written_block (at_own_height g)) e (LosesOpening-then old luck first (written_block (at_own_height g)) e refl refl refl refl reopens lost) genesis_own (genesis_of config chain old.ended g (subst (IsLawfulOpening config chain old.ended) is asks)) refl (λ p has. no_pair p has)
+        CutsReopening-lost config chain old luck begin asks (written_block (at_own_height g)) e (LosesOpening-then old luck first (written_block (at_own_height g)) e refl refl refl refl reopens lost) genesis_own (genesis_of config chain old.ended g (subst (IsLawfulOpening config chain old.ended) is asks)) refl (λ p has. contains_none p has)
         (begin_by_value old begin luck first reopens g is e.fault kind)
 
     module _ (s : Held) (begins_with : BeginsWith g first s) (grew : Grew first (written_block (at_own_height g)) s) where
@@ -474,7 +468,7 @@ module _ (config : Config) (chain : Chain) (old : Remains) (luck : ℕ) (begin :
           kind_is = next_by_value old begin luck first reopens g is s begins_with e.fault kind
 
           by : Loses first (written_block (at_own_height g)) e ⊎ (next_fault s ≡ None) × Loses first (with_derived config.epochs) e → CutsReopening config chain old.ended (picks_of old luck) begin nothing_made e.fault e.remains.ended
-          by (inl lost) = CutsReopening-lost config chain old luck begin asks (written_block (at_own_height g)) e (LosesOpening-then old luck first (written_block (at_own_height g)) e refl refl refl refl reopens lost) genesis_own (genesis_of config chain old.ended g own) refl (λ p has. no_pair p has) kind_is
+          by (inl lost) = CutsReopening-lost config chain old luck begin asks (written_block (at_own_height g)) e (LosesOpening-then old luck first (written_block (at_own_height g)) e refl refl refl refl reopens lost) genesis_own (genesis_of config chain old.ended g own) refl (λ p has. contains_none p has) kind_is
           by (inr (none, lost)) = CutsReopening-lost config chain old luck begin asks (with_derived config.epochs) e (LosesOpening-then old luck first (with_derived config.epochs) e refl refl refl refl reopens lost) genesis_own (genesis_of config chain old.ended g own) refl may kind_is
             where
               may : (p : Pair) → Contains (derived_pair config.epochs s ∷ []) p → OpeningPair config old.ended (picks_of old luck) begin p × IsSafePair chain e.remains.ended.blocks_sure p

@@ -6,7 +6,7 @@ use Rattle.mar_key.specs.Processed.{Processed, at_absent, at_block, first_unproc
 use Rattle.mar_store.specs.Kept.{At, has_height}
 use Rattle.mar_model.specs.Acks.{Mark, Outstanding, after_given, given_front, is_given, is_unmarked, with_mark}
 use Rattle.mar_model.specs.Config.{Config}
-use Rattle.mar_model.specs.Event.{Effect, Event, ack_marked, acked_to, applies_floor, awaits_floor, block_buffered, brought_effect, buffer_ended, drained_blocks, effect_of, is_above, kept_blocks, life_started, message_told, no_floor, peer_answered, processed_after, serve_ended, sync_finished, undrained_blocks}
+use Rattle.mar_model.specs.Event.{Effect, Event, ack_marked, acked_to, applies_floor, awaits_floor, brought_effect, drained_blocks, effect_of, is_above, kept_blocks, no_floor, processed_after, undrained_blocks}
 use Rattle.mar_model.specs.Node.{Awaited, ConsecutiveFrom, Node}
 use Rattle.mar_model.specs.Step.{HandedBlock, HandedFrom, HandsOver, Report, handed_blocks, outstanding_of}
 
@@ -56,13 +56,7 @@ ConsecutiveFrom-given_front h (a ∷ out) line = by (is_given a.mark) (Consecuti
 -- what is drained is consecutive from the first unprocessed height
 pub ConsecutiveFrom-drained : (n : Node) (e : Event) → ConsecutiveFrom (first_unprocessed n.processed) n.out → ConsecutiveFrom (first_unprocessed n.processed) (drained_blocks n e)
 ConsecutiveFrom-drained n (ack_marked t m) line = ConsecutiveFrom-given_front _ (with_mark t m n.out) (ConsecutiveFrom-with_mark t m _ n.out line)
-ConsecutiveFrom-drained n (life_started f) line = tt
-ConsecutiveFrom-drained n (message_told t m) line = tt
-ConsecutiveFrom-drained n (sync_finished t) line = tt
-ConsecutiveFrom-drained n (peer_answered answer) line = tt
-ConsecutiveFrom-drained n serve_ended line = tt
-ConsecutiveFrom-drained n (block_buffered b) line = tt
-ConsecutiveFrom-drained n buffer_ended line = tt
+ConsecutiveFrom-drained n _ line = tt
 
 -- an event that drains has no effect on a floor
 pub drains_or_floors : (config : Config) (n : Node) (e : Event) → (effect_of config n e ≡ no_floor) ⊎ (drained_blocks n e ≡ [])
@@ -71,13 +65,7 @@ drains_or_floors config n (ack_marked t m) = inl (none n.awaited)
     none : (a : Option Awaited) → brought_effect a None ≡ no_floor
     none None = refl
     none (Some a) = refl
-drains_or_floors config n (life_started f) = inr refl
-drains_or_floors config n (message_told t m) = inr refl
-drains_or_floors config n (sync_finished t) = inr refl
-drains_or_floors config n (peer_answered answer) = inr refl
-drains_or_floors config n serve_ended = inr refl
-drains_or_floors config n (block_buffered b) = inr refl
-drains_or_floors config n buffer_ended = inr refl
+drains_or_floors config n _ = inr refl
 
 consecutive_is : (g h : ℕ) (out : List Outstanding) → g ≡ h → ConsecutiveFrom g out → ConsecutiveFrom h out
 consecutive_is g h out same line = subst (λ k. ConsecutiveFrom k out) same line

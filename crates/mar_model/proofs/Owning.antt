@@ -3,6 +3,7 @@ use Rattle.std.proofs.Common.{◌≡◌, ◌∷◌, [], ℕ, List, Err, true, fa
 use Rattle.mar_types.specs.Epochs.{Epochs}
 use Rattle.mar_cert.specs.Block.{Block}
 use Rattle.mar_store.specs.Changes.{Within}
+use Rattle.mar_key.specs.Keys.{Call}
 use Rattle.mar_key.specs.Processed.{first_unprocessed, height_in}
 use Rattle.mar_model.specs.Answers.{answers_of, sends_of}
 use Rattle.mar_model.specs.Acts.{AreLawful}
@@ -26,7 +27,6 @@ use Rattle.mar_model.proofs.CacheOver.{OwnCache}
 use Rattle.mar_model.proofs.CutsRan.{Cuts-plan, IsOwned, OwnsWritten}
 use Rattle.mar_model.proofs.EntryLists.{contains_none}
 use Rattle.mar_model.proofs.Owns.{Owns, answers_in, asks_in, course_of, node_at, own_pair, pair_after, sends_in}
-use Rattle.mar_model.proofs.PlainEvents.{nothing_put}
 use Rattle.mar_model.proofs.Soundness.{own_pair_safe, untold}
 use Rattle.mar_model.proofs.SyncPromise.{at}
 
@@ -64,12 +64,12 @@ module _ (config : Config) (chain : Chain) (start : Scene) (e : Event) (buffer :
     cache = own;
     of_blocks = tt;
     of_certs = tt;
-    own_blocks = λ x has. nothing_put x has;
-    own_certs = λ x has. nothing_put x has;
+    own_blocks = λ x has. contains_none x has;
+    own_certs = λ x has. contains_none x has;
   }
 
-  DrainsNothing-quiet : LeavesArchives config n e → IsGoodUntold config chain n → DrainsNothing
-  DrainsNothing-quiet quiet good = record {
+  DrainsNothing-quiet : (calls : List Call) → LeavesArchives config n e calls → IsGoodUntold config chain n → DrainsNothing
+  DrainsNothing-quiet calls quiet good = record {
     no_effect = quiet.effect;
     unrefused = quiet.unrefused;
     undrained = quiet.undrained;
@@ -78,15 +78,16 @@ module _ (config : Config) (chain : Chain) (start : Scene) (e : Event) (buffer :
     safe = subst (IsSafePair chain start.held.blocks.sure) (sym (ap₂ pair_of quiet.processed quiet.cutoff)) (own_pair_safe chain n good.1.heights.delivery.anchored good.1.of_chain.floor_safe);
   }
 
-  -- What is to be known of an event that changes the cache alone: what its plan puts, sends and answers is its own, and agrees with
-  -- the chain.
+  -- What is to be known of an event that changes the cache alone: what its plan puts, asks, sends and answers is its own, and agrees
+  -- with the chain.
   pub record IsQuiet (put : List Cached) (plan : List Task) : Type 0 where
-    pub quiet : LeavesArchives config n e
+    pub calls : List Call
+    pub quiet : LeavesArchives config n e calls
     pub own : Within put (entries_put config n [] e no_floor)
     pub finalizations : AreCachedOf chain put
     pub blocks : BlocksAgree chain put
     pub owns : Owns config chain n e (written_entries put) start.life.sizes.retention (own_pair start) (course_of start) plan
-    pub asks : asks_in start.held.cutoff plan ≡ []
+    pub asks : asks_in start.held.cutoff plan ≡ calls
     pub sends : sends_in plan ≡ sends_of n e
     pub answers : (lowest : ℕ) × IsFront (answers_in start.held plan) (answers_of config n lowest e no_floor)
 
@@ -99,6 +100,6 @@ pub quiet_cut : {P E : Type 0} (life : Remembered P E) (epochs : Epochs) (inner 
 quiet_cut life epochs inner buffer s law e put plan is_quiet x heard breaks loaded config chain waiting set step =
     let is = is_quiet loaded config chain waiting set step in
     Cuts-plan config chain s e buffer waiting (written_entries put) (IsOwned-undrained config chain s e buffer waiting
-    (DrainsNothing-quiet config chain s e buffer waiting is.quiet (untold config chain (node_at s buffer waiting) e step.good)) (written_entries put)
+    (DrainsNothing-quiet config chain s e buffer waiting is.calls is.quiet (untold config chain (node_at s buffer waiting) e step.good)) (written_entries put)
     (OwnsWritten-cached config chain s e buffer waiting put (record { own = λ y has. ([], is.own y has); finalizations = is.finalizations; blocks = is.blocks; prunes_own = λ r has. contains_none r has }))
     ) inner plan law loaded (is.asks ∙ sym is.quiet.asks) is.sends is.answers is.owns x heard breaks

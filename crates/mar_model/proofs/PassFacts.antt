@@ -1,5 +1,6 @@
 -- What a pass of repair over the chain leaves: the law by what is at hand then, and the certificates of what it stored.
-use Rattle.std.proofs.Common.{◌≡◌, ⊎_elim, ◌∷◌, [], List, ◌++◌, option_and_then, option_map, is_some, slice_get, bytes_eq, filter, Contains, IsSome, IsTrue, Option, None, Some, Bool, true, false, if◌then◌else◌, ◌||◌, zero, suc, ℕ, ◌<◌, arith, refl, sym, ◌∙◌, ap, subst}
+use Rattle.std.proofs.Common.{◌≡◌, ⊎_elim, ◌∷◌, [], List, ◌++◌, option_and_then, option_map, is_some, slice_get, bytes_eq, filter, Contains, IsSome, IsTrue, Option, None, Some, Bool, true, false, if◌then◌else◌, zero, suc, ℕ, ◌<◌, arith, refl, sym, ◌∙◌, ap, subst}
+use Rattle.std.proofs.lemmas.Bool.{or_left, or_right}
 use Rattle.std.specs.List.{AllByRecursion, filter_map, list_any}
 use Rattle.mar_types.specs.Epochs.{Epochs}
 use Rattle.mar_types.specs.Round.{Round}
@@ -91,14 +92,6 @@ module _ {P E : Type 0} (life : Remembered P E) (config : Config) (chain : Chain
       tested true same some_first rest = (y, (zero, omega arith, refl), bytes_same y.payload b.commitment same)
       tested false other some_rest rest = let (g, has, is) = rest some_rest in (g, (suc has.0, (let low = has.1 in omega arith), has.2), is)
 
-  or_right : (p q : Bool) → q ≡ true → (p || q) ≡ true
-  or_right true q is = refl
-  or_right false q is = is
-
-  or_left : (p q : Bool) → p ≡ true → (p || q) ≡ true
-  or_left true q is = refl
-  or_left false q is = absurd (let bad : false ≡ true = is in cc)
-
   any_for : (b : Block) (xs : List Cached) (g : Finalization) → Contains (filter_map cached_finalization xs) g → g.payload ≡ b.commitment → list_any (is_for inner (inner b.commitment)) xs ≡ true
   any_for b [] g has is = absurd (let low : has.0 < 0 = has.1 in omega arith)
   any_for b (finalization_entry f ∷ xs) g (zero, low, same) is = or_left (bytes_eq (inner f.payload) (inner b.commitment)) _ (same_bytes (inner f.payload) (inner b.commitment) (ap (λ (h : Finalization). inner h.payload) same ∙ ap inner is))
@@ -117,10 +110,7 @@ module _ {P E : Type 0} (life : Remembered P E) (config : Config) (chain : Chain
         where
           is_payload : IsFinalized chain g.round g.payload → g.payload ≡ b.commitment
           is_payload (h, final) = (same_payload h g.round g.payload b at_b final (bytes_same (inner g.payload) (inner b.commitment) passes)).0
-      of_entry (verified_entry r c) there passes = absurd (let bad : false ≡ true = passes in cc)
-      of_entry (notarized_entry r c) there passes = absurd (let bad : false ≡ true = passes in cc)
-      of_entry (certified_entry k c) there passes = absurd (let bad : false ≡ true = passes in cc)
-      of_entry (notarization_entry f) there passes = absurd (let bad : false ≡ true = passes in cc)
+      of_entry _ there passes = absurd (let bad : false ≡ true = passes in cc)
 
       by : (o : Option Cached) → soonest (is_for inner (inner b.commitment)) xs ≡ o → (g : Finalization) × (of_payload b.commitment (option_and_then cached_finalization o) ≡ Some g)
       by (Some x) there = of_entry x there (passes_found (is_for inner (inner b.commitment)) xs x (sym there))

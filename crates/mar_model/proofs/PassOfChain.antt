@@ -1,6 +1,6 @@
 -- A pass of repair from a scene whose stores are the chain's: what it stores, tells and asks is the chain's, and the law of repair
 -- holds of what is held then.
-use Rattle.std.proofs.Common.{◌≡◌, ◌⊎◌, inl, inr, ⊎_elim, ◌∷◌, [], List, ◌++◌, map, option_and_then, option_map, is_some, Contains, IsTrue, Option, None, Some, Bool, true, false, if◌then◌else◌, cond, ◌==◌, zero, suc, ℕ, ◌+◌, ◌-◌, ◌<◌, ◌≤◌, arith, refl, sym, ◌∙◌, ap, subst, append-nil, append_assoc}
+use Rattle.std.proofs.Common.{◌≡◌, ◌⊎◌, inl, inr, ⊎_elim, ◌∷◌, [], List, ◌++◌, option_map, is_some, Contains, IsTrue, Option, None, Some, Bool, true, false, if◌then◌else◌, cond, ◌==◌, zero, suc, ℕ, ◌+◌, ◌-◌, ◌<◌, ◌≤◌, arith, refl, sym, ◌∙◌, ap, subst, append-nil, append_assoc}
 use Rattle.std.specs.List.{AllByRecursion, filter_map}
 use Rattle.std.proofs.lemmas.Bool.Decides.{nat_tests}
 use Rattle.std.proofs.lemmas.List.Elements.{Contains-append_cases}
@@ -10,24 +10,22 @@ use Rattle.mar_cert.specs.Finalization.{Finalization}
 use Rattle.mar_key.specs.Keys.{Call}
 use Rattle.mar_key.specs.Processed.{height_of}
 use Rattle.mar_store.specs.Changes.{heights}
-use Rattle.mar_store.specs.Gaps.{missing_items, next_start}
-use Rattle.mar_store.specs.Kept.{At, has_height, value_at}
-use Rattle.mar_store.specs.Ranges.{ranges}
-use Rattle.mar_store.proofs.GapHeights.{start_some}
+use Rattle.mar_store.specs.Kept.{At, has_height}
 use Rattle.mar_store.proofs.Lookups.{AllByRecursion-append, AllByRecursion-value_at, AllByRecursion-weaker, Contains-from_value, has_height-from_contains, has_height-from_value, value-from_has_height}
 use Rattle.mar_model.specs.Cached.{Cached, cached_block, cached_finalization}
-use Rattle.mar_model.specs.Chain.{Chain, Finalizes, IsBlockAt, IsLawful, commitment_at}
+use Rattle.mar_model.specs.Chain.{Chain, Finalizes, IsBlockAt, IsLawful}
 use Rattle.mar_model.specs.Moves.{at_height}
 use Rattle.mar_model.specs.Node.{AreBlocksOf, AreCachedOf, AreFinalizationsOf}
 use Rattle.mar_model.specs.Promise.{AreOne}
-use Rattle.mar_model.specs.Repair.{Search, alone_in, cached_for, certified_acts, fetch_asks, fill_acts, fills_acts, gap_acts, gap_asks, height_fetch, look_up, newest_acts, of_height, parent_fetch, parent_of, parent_wanted, payload_wanted, search_of, walk_start, with_fill, with_fills, with_found, with_newest_fill}
+use Rattle.mar_model.specs.Repair.{Search, alone_in, cached_for, certified_acts, fetch_asks, fill_acts, fills_acts, gap_acts, gap_asks, look_up, newest_acts, of_height, parent_fetch, payload_wanted, search_of, walk_start, with_fill, with_fills, with_found, with_newest_fill}
 use Rattle.mar_model.specs.Requests.{IsRepairFetch, IsRepaired}
-use Rattle.mar_model.specs.Stored.{at_own_height, is_held}
+use Rattle.mar_model.specs.Stored.{is_held}
 use Rattle.mar_model.specs.Acts.{Act, ask, says, store_block, stores}
 use Rattle.mar_model.specs.Ran.{RunsActs, RunsPass}
 use Rattle.mar_model.specs.Scene.{Scene}
 use Rattle.mar_model.proofs.Acting.{IsPassAct}
-use Rattle.mar_model.proofs.FillsOfChain.{AreNew, IsFill, cached_finalizes, fills-apart, fills-are, found_is, parent_named, unheld_is}
+use Rattle.mar_model.proofs.EntryLists.{contains_here, contains_more, contains_none}
+use Rattle.mar_model.proofs.FillsOfChain.{AreNew, IsFill, cached_finalizes, fills-apart, fills-are, gap-honest, newest-found, with_fill-blocks}
 use Rattle.mar_model.proofs.PassRan.{Row-ran, RowRan, TellsFinal, row_asks, row_blocks, row_certs, row_tells}
 use Rattle.mar_model.proofs.Repairing.{IsAlone, alone-is, newest-is, pass-repaired}
 use Rattle.mar_model.proofs.RepairWalk.{AreOwnHeights, fills-above, with_fill-has, with_fills-keeps}
@@ -46,18 +44,9 @@ pub record RowOf (chain : Chain) (inner : List ℕ → List ℕ) (cached : List 
   pub certs_at : (x : At Finalization) → Contains (row_certs acts) x → (b : Block) × Contains bs b × (b.height ≡ x.height)
   pub with_cached : (b : Block) (f : Finalization) → Contains fills b → cached_for inner cached b.commitment ≡ Some f → Contains (row_certs acts) (at_height b.height f)
 
-none_in : {T : Type 0} (x : T) → Contains [] x → ⊥
-none_in x has = let low : has.0 < 0 = has.1 in omega arith
-
 first_or : {T : Type 0} (x y : T) (xs : List T) → Contains (x ∷ xs) y → (x ≡ y) ⊎ Contains xs y
 first_or x y xs (zero, low, is) = inl is
 first_or x y xs (suc k, low, is) = inr (k, omega arith, is)
-
-in_rest : {T : Type 0} (x y : T) (xs : List T) → Contains xs y → Contains (x ∷ xs) y
-in_rest x y xs (k, low, is) = (suc k, omega arith, is)
-
-in_first : {T : Type 0} (x : T) (xs : List T) → Contains (x ∷ xs) x
-in_first x xs = (zero, omega arith, refl)
 
 module _ (epochs : Epochs) (chain : Chain) (lawful : IsLawful epochs chain) (s : Search) (known : List Block) (one : AreOne s.inner known) (chain_known : (b : Block) → Contains chain.blocks b → Contains known b)
     (beside_known : (b : Block) → Contains (s.buffer ++ filter_map cached_block s.cached) b → Contains known b) (finals : AreCachedOf chain s.cached) where
@@ -75,10 +64,10 @@ module _ (epochs : Epochs) (chain : Chain) (lawful : IsLawful epochs chain) (s :
     passing = (tt, tt);
     final = (tt, tt);
     certs_final = tt;
-    certs_cached = λ x has. absurd (none_in x has);
-    certs_told = λ x has. absurd (none_in x has);
-    certs_at = λ x has. absurd (none_in x has);
-    with_cached = λ b f has is. absurd (none_in b has);
+    certs_cached = λ x has. contains_none x has;
+    certs_told = λ x has. contains_none x has;
+    certs_at = λ x has. contains_none x has;
+    with_cached = λ b f has is. contains_none b has;
   }
 
   -- a block is filled in with its cached finalization
@@ -100,7 +89,7 @@ module _ (epochs : Epochs) (chain : Chain) (lawful : IsLawful epochs chain) (s :
         certs_final = row.certs_final;
         certs_cached = row.certs_cached;
         certs_told = row.certs_told;
-        certs_at = λ x has. let (c, there, is) = row.certs_at x has in (c, in_rest b c bs there, is);
+        certs_at = λ x has. let (c, there, is) = row.certs_at x has in (c, contains_more b bs c there, is);
         with_cached = λ c f has is. row.with_cached c f (none_for none c f has is) is;
       }
       by (Some f) some =
@@ -112,10 +101,10 @@ module _ (epochs : Epochs) (chain : Chain) (lawful : IsLawful epochs chain) (s :
             final = (tt, ((finalizes.named, ap (λ o. option_map (λ c. c.digest) o) fill.at), row.final));
             certs_final = (finalizes, row.certs_final);
             certs_cached = λ x has. ⊎_elim (λ same. subst (λ (y : At Finalization). Contains (filter_map cached_finalization s.cached) y.value) same near) (λ rest. row.certs_cached x rest) (first_or (at_height b.height f) x (row_certs acts) has);
-            certs_told = λ x has. ⊎_elim (λ same. subst (λ (y : At Finalization). Contains (b.height ∷ row_tells acts) y.height) same (in_first b.height (row_tells acts))) (λ rest. in_rest b.height x.height (row_tells acts) (row.certs_told x rest)) (first_or (at_height b.height f) x (row_certs acts) has);
-            certs_at = λ x has. ⊎_elim (λ same. (b, in_first b bs, ap (λ (y : At Finalization). y.height) same)) (λ rest. let (c, there, is) = row.certs_at x rest in (c, in_rest b c bs there, is)) (first_or (at_height b.height f) x (row_certs acts) has);
-            with_cached = λ c g has is. ⊎_elim (λ same. subst (λ (x : At Finalization). Contains (at_height b.height f ∷ row_certs acts) x) (same_at c g same is) (in_first (at_height b.height f) (row_certs acts)))
-                (λ rest. in_rest (at_height b.height f) (at_height c.height g) (row_certs acts) (row.with_cached c g rest is)) (first_or b c fills has);
+            certs_told = λ x has. ⊎_elim (λ same. subst (λ (y : At Finalization). Contains (b.height ∷ row_tells acts) y.height) same (contains_here b.height (row_tells acts))) (λ rest. contains_more b.height (row_tells acts) x.height (row.certs_told x rest)) (first_or (at_height b.height f) x (row_certs acts) has);
+            certs_at = λ x has. ⊎_elim (λ same. (b, contains_here b bs, ap (λ (y : At Finalization). y.height) same)) (λ rest. let (c, there, is) = row.certs_at x rest in (c, contains_more b bs c there, is)) (first_or (at_height b.height f) x (row_certs acts) has);
+            with_cached = λ c g has is. ⊎_elim (λ same. subst (λ (x : At Finalization). Contains (at_height b.height f ∷ row_certs acts) x) (same_at c g same is) (contains_here (at_height b.height f) (row_certs acts)))
+                (λ rest. contains_more (at_height b.height f) (row_certs acts) (at_height c.height g) (row.with_cached c g rest is)) (first_or b c fills has);
           }
         where
           same_at : (c : Block) (g : Finalization) → b ≡ c → cached_for s.inner s.cached c.commitment ≡ Some g → at_height b.height f ≡ at_height c.height g
@@ -136,7 +125,7 @@ module _ (epochs : Epochs) (chain : Chain) (lawful : IsLawful epochs chain) (s :
     certs_final = row.certs_final;
     certs_cached = row.certs_cached;
     certs_told = row.certs_told;
-    certs_at = λ x has. let (c, there, is) = row.certs_at x has in (c, in_rest b c bs there, is);
+    certs_at = λ x has. let (c, there, is) = row.certs_at x has in (c, contains_more b bs c there, is);
     with_cached = row.with_cached;
   }
 
@@ -209,19 +198,9 @@ module _ (epochs : Epochs) (chain : Chain) (lawful : IsLawful epochs chain) (inn
   newest_final : (x : At Finalization) → alone_in u.held ≡ Some x → Finalizes chain x.height x.value.round x.value.payload
   newest_final x is = AllByRecursion-value_at (λ y. Finalizes chain y.height y.value.round y.value.payload) u.held.certs.held x.height x.value certs (newest-is u.held.certs.held x (lone x is).is_newest).0
 
-  newest_free : (x : At Finalization) → alone_in u.held ≡ Some x → has_height held x.height ≡ false
-  newest_free x is = by (has_height held x.height) refl
-    where
-      by : (c : Bool) → has_height held x.height ≡ c → c ≡ false
-      by true has = absurd (let low : x.height < x.height = (lone x is).above x.height has in omega arith)
-      by false has = refl
-
   newest_found : (x : At Finalization) (b : Block) → alone_in u.held ≡ Some x → look_up s held x.value.payload ≡ Some b
-      → IsBlockAt chain x.height b × Contains (buffer ++ filter_map cached_block u.held.cache.kept.held) b × (b.height ≡ x.height) × (is_held held b ≡ false)
-  newest_found x b is found =
-      let (at, near) = found_is epochs chain lawful s known one chain_known beside_known held blocks x.height x.value.payload b (newest_final x is).payload_is found (newest_free x is) in
-      let own = lawful.heights x.height b at in
-      (at, near, own, unheld_is epochs chain lawful s known one chain_known beside_known held blocks b (subst (λ k. IsBlockAt chain k b) (sym own) at) (subst (λ k. has_height held k ≡ false) (sym own) (newest_free x is)))
+      → IsFill chain (buffer ++ filter_map cached_block u.held.cache.kept.held) b × (b.height ≡ x.height) × (is_held held b ≡ false)
+  newest_found x b is found = newest-found epochs chain lawful s known one chain_known beside_known held blocks x (newest_final x is) (lone x is).above b found
 
   begun : Begun
   begun = by (alone_in u.held) refl
@@ -238,7 +217,7 @@ module _ (epochs : Epochs) (chain : Chain) (lawful : IsLawful epochs chain) (inn
         new = tt;
         above = tt;
         of_blocks = blocks;
-        certified = λ b has. absurd (none_in b has);
+        certified = λ b has. contains_none b has;
         honest = honest;
       }
 
@@ -250,7 +229,7 @@ module _ (epochs : Epochs) (chain : Chain) (lawful : IsLawful epochs chain) (inn
           (λ acts fills bs more row. subst (λ xs. RowIs (xs ++ acts) fills bs (parent_fetch (record { height = x.height; value = x.value.payload }) ∷ more)) (sym (ap (newest_acts s held) is ∙ ap (certified_acts x) none))
           (Row-ask epochs chain lawful s known one chain_known beside_known finals acts fills bs more (parent_fetch (record { height = x.height; value = x.value.payload }) ∷ []) row))
       found x is (Some b) there =
-          let (at, near, own, free) = newest_found x b is there in
+          let (fill, own, free) = newest_found x b is there in
           record {
             puts = b ∷ [];
             asks = [];
@@ -258,16 +237,16 @@ module _ (epochs : Epochs) (chain : Chain) (lawful : IsLawful epochs chain) (inn
                 (Row-put epochs chain lawful s known one chain_known beside_known finals acts fills bs more b row);
             asks_are = sym (ap (λ o. fetch_asks s held (payload_wanted o)) is ∙ ap (λ o. if is_some o then [] else parent_fetch (record { height = x.height; value = x.value.payload }) ∷ []) there);
             walk = ap (with_newest_fill s held) is ∙ (ap (λ o. with_found held (of_height x.height o)) there ∙ ap (with_found held) (of_own (b.height == x.height) refl own));
-            fills = (record { at = subst (λ k. IsBlockAt chain k b) (sym own) at; from = near }, tt);
+            fills = (fill, tt);
             new = (free, tt);
             above = ((let higher : height_of u.held.processed < x.height = (lone x is).unprocessed in omega (arith, own)), tt);
-            of_blocks = subst (λ (c : Bool). AreBlocksOf chain (if c then held else held ++ at_own_height b ∷ [])) (sym free) (AllByRecursion-append (λ y. IsBlockAt chain y.height y.value) held (at_own_height b ∷ []) blocks (subst (λ k. IsBlockAt chain k b) (sym own) at, tt));
+            of_blocks = with_fill-blocks epochs chain lawful s known one chain_known beside_known held b blocks fill.at;
             certified = λ c has. subst (λ k. IsTrue (has_height u.held.certs.held k)) (sym own ∙ ap (λ (d : Block). d.height) (only b c has)) (has_height-from_value u.held.certs.held x.height x.value (newest-is u.held.certs.held x (lone x is).is_newest).0);
             honest = tt;
           }
         where
           only : (c d : Block) → Contains (c ∷ []) d → c ≡ d
-          only c d has = ⊎_elim (λ same. same) (λ none. absurd (none_in d none)) (first_or c d [] has)
+          only c d has = ⊎_elim (λ same. same) (λ none. contains_none d none) (first_or c d [] has)
 
           tested : (c : Bool) → (b.height == x.height) ≡ c → b.height ≡ x.height → cond c (stores (store_block b) ∷ []) [] ≡ stores (store_block b) ∷ []
           tested true test same = refl
@@ -305,30 +284,6 @@ module _ (epochs : Epochs) (chain : Chain) (lawful : IsLawful epochs chain) (inn
   own_heights : (xs : List (At Block)) → AreBlocksOf chain xs → AreOwnHeights xs
   own_heights xs of_chain = AllByRecursion-weaker (λ y. IsBlockAt chain y.height y.value) (λ y. y.value.height ≡ y.height) (λ y at. lawful.heights y.height y.value at) xs of_chain
 
-  -- what it asks for at the end is the chain's
-  gap_honest : AllByRecursion (IsRepairFetch chain) (gap_asks s most after)
-  gap_honest = AllByRecursion-append (IsRepairFetch chain) (fetch_asks s after (parent_wanted s.from after)) _ (parents (next_start (ranges (heights after)) s.from) refl) (each (missing_items (ranges (heights after)) s.from most))
-    where
-      each : (hs : List ℕ) → AllByRecursion (IsRepairFetch chain) (map height_fetch hs)
-      each [] = tt
-      each (h ∷ hs) = ((refl, refl), each hs)
-
-      of_upper : (k : ℕ) (b : Block) → next_start (ranges (heights after)) s.from ≡ Some k → value_at after k ≡ Some b → (o : Option Block) → AllByRecursion (IsRepairFetch chain) (if is_some o then [] else parent_fetch (parent_of b) ∷ [])
-      of_upper k b is at (Some p) = tt
-      of_upper k b is at None =
-          let there : IsBlockAt chain k b = AllByRecursion-value_at (λ y. IsBlockAt chain y.height y.value) after k b fills_facts.2 at in
-          let begins = start_some (heights after) s.from k is in
-          let above : s.from < k = begins.above in
-          ((refl, b.height - 1, refl, subst (λ j. commitment_at chain (j - 1) ≡ Some b.parent_commitment) (sym (lawful.heights k b there)) (parent_named epochs chain lawful s known one chain_known beside_known k b (omega arith) there)), tt)
-
-      at_start : (k : ℕ) → next_start (ranges (heights after)) s.from ≡ Some k → (o : Option Block) → value_at after k ≡ o → AllByRecursion (IsRepairFetch chain) (fetch_asks s after (option_map parent_of o))
-      at_start k is None at = tt
-      at_start k is (Some b) at = of_upper k b is at (look_up s after b.parent_commitment)
-
-      parents : (o : Option ℕ) → next_start (ranges (heights after)) s.from ≡ o → AllByRecursion (IsRepairFetch chain) (fetch_asks s after (option_map parent_of (option_and_then (value_at after) o)))
-      parents None is = tt
-      parents (Some k) is = at_start k is (value_at after k) refl
-
   row : RowIs (newest_acts s held (alone_in u.held) ++ (fills_acts s pass.fills ++ gap_acts s most after)) pass.fills (begun.puts ++ pass.fills) (begun.asks ++ gap_asks s most after)
   row = begun.rows (fills_acts s pass.fills ++ gap_acts s most after) pass.fills pass.fills (gap_asks s most after)
       (Row-fills epochs chain lawful s known one chain_known beside_known finals pass.fills (gap_acts s most after) (gap_asks s most after) fills_facts.0 (Row-asks epochs chain lawful s known one chain_known beside_known finals (gap_asks s most after)))
@@ -350,11 +305,11 @@ module _ (epochs : Epochs) (chain : Chain) (lawful : IsLawful epochs chain) (inn
     certs_told = row.certs_told;
     certs_at = row.certs_at;
     with_cached = λ b f has is. ⊎_elim (λ first. inl (begun.certified b first)) (λ rest. inr (row.with_cached b f rest is)) (Contains-append_cases begun.puts pass.fills b has);
-    honest = AllByRecursion-append (IsRepairFetch chain) begun.asks (gap_asks s most after) begun.honest gap_honest;
+    honest = AllByRecursion-append (IsRepairFetch chain) begun.asks (gap_asks s most after) begun.honest (gap-honest epochs chain lawful s known one chain_known beside_known after fills_facts.2 most);
     repaired = subst (λ xs. IsRepaired most (look_up s xs) (height_of u.held.processed) xs t.held.certs.held (begun.asks ++ gap_asks s most after)) (sym held_then)
         (subst (λ xs. IsRepaired most (look_up s after) (height_of u.held.processed) after t.held.certs.held (xs ++ gap_asks s most after)) (sym begun.asks_are)
         (pass-repaired inner buffer u.held.cache.kept.held u.held.processed held u.held.certs.held most pass.fills (own_heights held blocks) pass.are pass.ends
-        (λ b is. fills-apart epochs chain lawful s known one chain_known beside_known after fills_facts.2 b is) (λ x b is found. let facts = newest_found x b is found in (facts.2, facts.3)) t.held.certs.held ran.kept_certs come));
+        (λ b is. fills-apart epochs chain lawful s known one chain_known beside_known after fills_facts.2 b is) (λ x b is found. let facts = newest_found x b is found in (facts.1, facts.2)) t.held.certs.held ran.kept_certs come));
   }
     where
       acts : List Act
@@ -369,7 +324,7 @@ module _ (epochs : Epochs) (chain : Chain) (lawful : IsLawful epochs chain) (inn
       held_then = ran.blocks ∙ (fills_then held begun.puts pass.fills ∙ ap (λ xs. with_fills xs pass.fills) (sym begun.walk))
 
       each_has : (xs : List (At Block)) (bs : List Block) (b : Block) → AreNew xs bs → Contains bs b → IsTrue (has_height (with_fills xs bs) b.height)
-      each_has xs [] b new has = absurd (none_in b has)
+      each_has xs [] b new has = contains_none b has
       each_has xs (c ∷ bs) b new has = ⊎_elim (λ same. subst (λ (d : Block). IsTrue (has_height (with_fills (with_fill xs c) bs) d.height)) same (with_fills-keeps (with_fill xs c) bs c.height (with_fill-has xs c new.0))) (λ there. each_has (with_fill xs c) bs b new.1 there)
           (first_or c b bs has)
 

@@ -20,7 +20,7 @@ use Rattle.mar_model.specs.Promise.{Heard}
 use Rattle.mar_model.specs.Repair.{with_fill, with_fills}
 use Rattle.mar_model.specs.Step.{AreTipsOf, Report, TipsFrom}
 use Rattle.mar_model.specs.Stored.{at_own_height, is_certified}
-use Rattle.mar_model.specs.Acts.{Act, AreLawful, IsDone, ask, caches, finish_sync, keeps_for, progresses, reply, says, send, start_sync, store, store_block, store_late, stores, sync_writes, tell}
+use Rattle.mar_model.specs.Acts.{Act, AreLawful, IsDone, ask, says, store, store_block, stores, tell}
 use Rattle.mar_model.specs.Ran.{Reads, RunsActs}
 use Rattle.mar_gate.specs.Writing.{Writing}
 use Rattle.mar_model.specs.Scene.{Scene, Window}
@@ -336,9 +336,6 @@ module _ (inner : List ℕ → List ℕ) (chain : Chain) where
         (λ k has. absurd (let low : has.0 < 0 = has.1 in omega arith)) (let k : t.life.tip ≡ s.life.tip = tip in omega arith) asked
         (subst (λ (x : Scene). x.heard ≡ record s.heard { reports = x.heard.reports; asks = x.heard.asks }) (sym same) refl)
 
-    one_more : (bs : List Block) (cs : List (At Finalization)) (hs : List ℕ) (asks : List Call) → Row bs cs hs asks s t → Row bs cs hs (asks ++ []) s t
-    one_more bs cs hs asks row = subst (λ xs. Row bs cs hs xs s t) (sym (append-nil asks)) row
-
   -- A ROW
 
   pub Row-ran : (acts : List Act) (s t : Scene) → AllByRecursion IsPassAct acts → AllByRecursion (TellsFinal chain) acts → RunsActs inner s acts t → Row (row_blocks acts) (row_certs acts) (row_tells acts) (row_asks acts) s t
@@ -351,12 +348,4 @@ module _ (inner : List ℕ → List ℕ) (chain : Chain) where
       Row-then [] _ [] _ (h ∷ []) _ [] _ s after t (Row-then [] [] [] [] [] (h ∷ []) [] [] s mid after (Row-read s mid reads) (Row-tell mid after r h d final.0.0 final.0.1 did)) (Row-ran acts after t are.1 final.1 runs)
   Row-ran (says (ask calls) ∷ acts) s t are final (mid, after, reads, did, runs) =
       Row-then [] _ [] _ [] _ calls _ s after t (Row-then [] [] [] [] [] [] [] calls s mid after (Row-read s mid reads) (Row-ask mid after calls did)) (Row-ran acts after t are.1 final.1 runs)
-  Row-ran (stores (store_late f b) ∷ acts) s t are final runs = absurd are.0
-  Row-ran (stores start_sync ∷ acts) s t are final runs = absurd are.0
-  Row-ran (stores sync_writes ∷ acts) s t are final runs = absurd are.0
-  Row-ran (stores (finish_sync k) ∷ acts) s t are final runs = absurd are.0
-  Row-ran (says (send x) ∷ acts) s t are final runs = absurd are.0
-  Row-ran (says (reply x) ∷ acts) s t are final runs = absurd are.0
-  Row-ran (caches x ∷ acts) s t are final runs = absurd are.0
-  Row-ran (keeps_for x ∷ acts) s t are final runs = absurd are.0
-  Row-ran (progresses x ∷ acts) s t are final runs = absurd are.0
+  Row-ran _ s t are final runs = absurd are.0

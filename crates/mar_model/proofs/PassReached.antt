@@ -1,9 +1,11 @@
 -- What an event has reached that ends with a pass of repair.
 use Rattle.std.proofs.Common.{◌≡◌, ◌⊎◌, inl, inr, ⊎_elim, ◌∷◌, [], List, ◌++◌, map, drop, max, count_by, option_to_list, is_some, IfSome, IsSome, IsTrue, Contains, Option, None, Some, Bool, true, false, cond, if◌then◌else◌, not, ◌&&◌, ◌||◌, ◌==◌, nat_lt, zero, suc, ℕ, ◌+◌, ◌-◌, ◌<◌, ◌≤◌, arith, refl, sym, ◌∙◌, ap, subst, append-nil, append_assoc}
 use Rattle.std.specs.List.{AllByRecursion, filter_map, list_any}
+use Rattle.std.proofs.lemmas.Bool.{eqb-true, or_left, or_right}
 use Rattle.std.proofs.lemmas.Bool.Decides.{nat_tests}
 use Rattle.std.proofs.lemmas.List.Elements.{Contains-append_cases, Contains-append_left, Contains-append_right}
 use Rattle.std.proofs.lemmas.List.Sums.{sum_by-cons}
+use Rattle.std.proofs.lemmas.Option.{same_Some}
 use Rattle.mar_cert.specs.Block.{Block}
 use Rattle.mar_cert.specs.Finalization.{Finalization}
 use Rattle.mar_gate.specs.Writing.{Writing}
@@ -13,7 +15,7 @@ use Rattle.mar_store.specs.Changes.{KeepsValues, left_of}
 use Rattle.mar_store.specs.Kept.{At, has_height, value_at}
 use Rattle.mar_store.proofs.Lookups.{AllByRecursion-append, Contains-from_value, has_height-from_contains, has_height-from_value, has_height-push_cases, value-from_has_height, value_at-append, value_at-one, missing-from_has_height, AllByRecursion-contains, AllByRecursion-from_contains, value_at-append_found}
 use Rattle.mar_model.specs.Cached.{Cached, cached_block, cached_finalization}
-use Rattle.mar_model.specs.Cache.{entries_with_puts, AdvancesCache}
+use Rattle.mar_model.specs.Cache.{entries_with_puts}
 use Rattle.mar_model.specs.Chain.{Chain, IsBlockAt, Finalizes}
 use Rattle.mar_model.specs.Config.{Config}
 use Rattle.mar_model.specs.Event.{Event, blocks_from, certs_from, finalization_for, no_floor, own_writes, storing_of, told_finalization, Storing, brought_block}
@@ -25,6 +27,7 @@ use Rattle.mar_model.specs.Requests.{AsksParentOf, IsRepairAskOf, IsRepaired, is
 use Rattle.mar_model.specs.Scene.{Scene}
 use Rattle.mar_model.specs.Step.{IsBlockFrom, IsCertFrom, IsStored, IsStoredLate, Report, is_repaired, own_heights, CertificatesFrom, EntersAt, KeepsFrom, RepairsFromHand, Writes, finished_position, repairs_from}
 use Rattle.mar_model.specs.Stored.{at_own_height, is_held}
+use Rattle.mar_model.proofs.CachePrunes.{not_first}
 use Rattle.mar_model.proofs.Filtered.{all_found_from, all_found_of}
 use Rattle.mar_model.proofs.FillsOfChain.{AreNew, IsFill}
 use Rattle.mar_model.proofs.Growing.{Grew-refl, Grown-blocks, Grown-certs, Grown-then, WithinWritten-refl}
@@ -35,7 +38,7 @@ use Rattle.mar_model.proofs.RepairWalk.{with_fill-has, with_fills-keeps}
 use Rattle.mar_model.proofs.SyncPromise.{at}
 use Rattle.mar_model.proofs.Tips.{both_chain, both_rise, both_tips}
 use Rattle.std.specs.Option.{option_or}
-use Rattle.mar_model.proofs.CacheOver.{MovesCache}
+use Rattle.mar_model.proofs.CacheOver.{AdvancesCache-beside, MovesCache}
 use Rattle.mar_model.specs.Acts.{AreLawful}
 
 -- THE LAW BY ANOTHER LOOK-UP
@@ -72,16 +75,8 @@ any_height bs h = list_any (λ k. k == h) (map (λ b. b.height) bs)
 -- what is held then was held or is one of these
 with_fills-cases : (held : List (At Block)) (bs : List Block) (h : ℕ) → IsTrue (has_height (with_fills held bs) h) → IsTrue (has_height held h) ⊎ IsTrue (any_height bs h)
 with_fills-cases held [] h has = inl has
-with_fills-cases held (b ∷ bs) h has = ⊎_elim (λ with_b. here with_b) (λ later. inr (or_second (b.height == h) (any_height bs h) later)) (with_fills-cases (with_fill held b) bs h has)
+with_fills-cases held (b ∷ bs) h has = ⊎_elim (λ with_b. here with_b) (λ later. inr (or_right (b.height == h) (any_height bs h) later)) (with_fills-cases (with_fill held b) bs h has)
   where
-    or_second : (p q : Bool) → q ≡ true → (p || q) ≡ true
-    or_second true q is = refl
-    or_second false q is = is
-
-    or_first : (p q : Bool) → p ≡ true → (p || q) ≡ true
-    or_first true q is = refl
-    or_first false q is = absurd (let no : false ≡ true = is in cc)
-
     same_test : (i j : ℕ) → i ≡ j → (i == j) ≡ true
     same_test i j is = grind (arith, nat_tests)
 
@@ -90,20 +85,13 @@ with_fills-cases held (b ∷ bs) h has = ⊎_elim (λ with_b. here with_b) (λ l
       where
         by : (c : Bool) → IsTrue (has_height (if c then held else held ++ at_own_height b ∷ []) h) → IsTrue (has_height held h) ⊎ IsTrue (any_height (b ∷ bs) h)
         by true there = inl there
-        by false there = ⊎_elim (λ old. inl old) (λ is. inr (or_first (b.height == h) (any_height bs h) (same_test b.height h is))) (has_height-push_cases held b.height h b there)
+        by false there = ⊎_elim (λ old. inl old) (λ is. inr (or_left (b.height == h) (any_height bs h) (same_test b.height h is))) (has_height-push_cases held b.height h b there)
 
 -- and none of these was
 new_unheld : (held : List (At Block)) (bs : List Block) (h : ℕ) → AreNew held bs → IsTrue (any_height bs h) → has_height held h ≡ false
 new_unheld held [] h new any = absurd (let no : false ≡ true = any in cc)
 new_unheld held (b ∷ bs) h new any = by (b.height == h) refl any (new_unheld (with_fill held b) bs h new.1)
   where
-    left_false : (p q : Bool) → (p || q) ≡ false → p ≡ false
-    left_false true q is = absurd (let no : true ≡ false = is in cc)
-    left_false false q is = refl
-
-    same_of : (i j : ℕ) → (i == j) ≡ true → i ≡ j
-    same_of i j is = grind (arith, nat_tests)
-
     before : has_height (with_fill held b) h ≡ false → has_height held h ≡ false
     before none = tested (has_height held h) refl
       where
@@ -116,7 +104,7 @@ new_unheld held (b ∷ bs) h new any = by (b.height == h) refl any (new_unheld (
         tested false has = refl
 
     by : (c : Bool) → (b.height == h) ≡ c → (c || any_height bs h) ≡ true → (IsTrue (any_height bs h) → has_height (with_fill held b) h ≡ false) → has_height held h ≡ false
-    by true same any_there rest = subst (λ k. has_height held k ≡ false) (same_of b.height h same) (left_false (has_height held b.height) _ new.0)
+    by true same any_there rest = subst (λ k. has_height held k ≡ false) (eqb-true b.height h same) (not_first (has_height held b.height) _ new.0)
     by false other any_there rest = before (rest any_there)
 
 zero_of : (c : Bool) → c ≡ false → ◌≡◌ {A = ℕ} (cond c 1 0) 0
@@ -160,12 +148,9 @@ once_each held (b ∷ bs) h new = by (b.height == h) refl (once_each (with_fill 
         let one : ◌≡◌ {A = ℕ} (cond (b.height == h) 1 0) 1 = one_of (b.height == h) same in
         omega arith
       where
-        same_of : (i j : ℕ) → (i == j) ≡ true → i ≡ j
-        same_of i j is = grind (arith, nat_tests)
-
         absent : (p : Bool) → any_height bs h ≡ p → p ≡ false
         absent true any = absurd (let unheld : has_height (with_fill held b) h ≡ false = new_unheld (with_fill held b) bs h new.1 any in
-            let there : has_height (with_fill held b) h ≡ true = subst (λ k. has_height (with_fill held b) k ≡ true) (same_of b.height h same) (with_fill-has held b new.0) in
+            let there : has_height (with_fill held b) h ≡ true = subst (λ k. has_height (with_fill held b) k ≡ true) (eqb-true b.height h same) (with_fill-has held b new.0) in
             let no : false ≡ true = sym unheld ∙ there in cc)
         absent false any = refl
     by false other rest =
@@ -181,17 +166,11 @@ by_test c cs j false other any rest = let there = rest any in (suc there.0, (let
 pub entered_heights : (xs : List (At Block)) (bs : List Block) (h k : ℕ) → IsTrue (has_height (with_fills xs bs) k) → (IsTrue (has_height xs k) → h ≡ k) → Contains (h ∷ map (λ b. b.height) bs) k
 entered_heights xs bs h k has old = ⊎_elim (λ before. (zero, omega arith, old before)) (λ any. let there = named bs k any in (suc there.0, (let low = there.1 in omega arith), there.2)) (with_fills-cases xs bs k has)
   where
-    same_of : (i j : ℕ) → (i == j) ≡ true → i ≡ j
-    same_of i j so = grind (arith, nat_tests)
-
     named : (cs : List Block) (j : ℕ) → IsTrue (any_height cs j) → Contains (map (λ b. b.height) cs) j
     named [] j any = absurd (let bad : false ≡ true = any in cc)
     named (c ∷ cs) j any = by_test c cs j (c.height == j) refl any (λ rest. named cs j rest)
 
 -- WHAT IS REACHED
-
-some_value : {T : Type 0} (x y : T) → ◌≡◌ {A = Option T} (Some x) (Some y) → x ≡ y
-some_value x y e = cc
 
 module _ {P E : Type 0} (life : Remembered P E) (config : Config) (chain : Chain) (inner : List ℕ → List ℕ) (a : Seen P E) (e : Event) (buffer : List Block) (waiting : Waiting) (tips : List Report) (u t : Scene)
     (reach : Reaches config chain a e buffer waiting tips (at life u)) (pass : Passed chain inner buffer u t) where
@@ -241,8 +220,8 @@ module _ {P E : Type 0} (life : Remembered P E) (config : Config) (chain : Chain
 
     blocks_kept : KeepsFrom (blocks_from n e no_floor) a.held.blocks t.held.blocks
     blocks_kept = record {
-      held = λ h v low at_h. ran.kept_blocks h v (reach.blocks.held h v low at_h);
-      sure = λ h v at_h has. subst (λ xs. value_at xs h ≡ Some v) (sym ran.sure_blocks) (reach.blocks.sure h v at_h (has_height-from_value u.held.blocks.held h v (reach.blocks.held h v (low_bound h) (is.sure_blocks h v at_h))));
+      held = λ h v low at_h. ran.kept_blocks h v (reach.comes.blocks.keeps.held h v low at_h);
+      sure = λ h v at_h has. subst (λ xs. value_at xs h ≡ Some v) (sym ran.sure_blocks) (reach.comes.blocks.keeps.sure h v at_h (has_height-from_value u.held.blocks.held h v (reach.comes.blocks.keeps.held h v (low_bound h) (is.sure_blocks h v at_h))));
     }
       where
         low_bound : (h : ℕ) → blocks_from n e no_floor ≤ h
@@ -250,8 +229,8 @@ module _ {P E : Type 0} (life : Remembered P E) (config : Config) (chain : Chain
 
     certs_kept : KeepsFrom (certs_from n e no_floor) a.held.certs t.held.certs
     certs_kept = record {
-      held = λ h v low at_h. ran.kept_certs h v (reach.certs.held h v low at_h);
-      sure = λ h v at_h has. subst (λ xs. value_at xs h ≡ Some v) (sym ran.sure_certs) (reach.certs.sure h v at_h (has_height-from_value u.held.certs.held h v (reach.certs.held h v (low_bound h) (is.sure_certs h v at_h))));
+      held = λ h v low at_h. ran.kept_certs h v (reach.comes.certs.keeps.held h v low at_h);
+      sure = λ h v at_h has. subst (λ xs. value_at xs h ≡ Some v) (sym ran.sure_certs) (reach.comes.certs.keeps.sure h v at_h (has_height-from_value u.held.certs.held h v (reach.comes.certs.keeps.held h v (low_bound h) (is.sure_certs h v at_h))));
     }
       where
         low_bound : (h : ℕ) → certs_from n e no_floor ≤ h
@@ -269,14 +248,14 @@ module _ {P E : Type 0} (life : Remembered P E) (config : Config) (chain : Chain
     near : (b : Block) → Contains (buffer ++ filter_map cached_block u.held.cache.kept.held) b → Contains (buffer ++ filter_map cached_block a.held.cache.kept.held) b
     near b has = ⊎_elim (λ own_b. Contains-append_left buffer (filter_map cached_block a.held.cache.kept.held) b own_b) (λ far. Contains-append_right buffer (filter_map cached_block a.held.cache.kept.held) b (is.cached_near b far)) (Contains-append_cases buffer (filter_map cached_block u.held.cache.kept.held) b has)
 
-    own_blocks : (x : At Block) → Contains (reach.put_blocks ++ map at_own_height pass.blocks) x → IsBlockFrom n e x
-    own_blocks x has = ⊎_elim (λ first. reach.own_blocks x first) (λ fill. Contains-append_right (option_to_list (brought_block n e)) (buffer ++ filter_map cached_block a.held.cache.kept.held) x.value (near x.value (fill_near pass.blocks pass.fills x fill))) (Contains-append_cases reach.put_blocks (map at_own_height pass.blocks) x has)
+    own_blocks : (x : At Block) → Contains (reach.comes.blocks.put ++ map at_own_height pass.blocks) x → IsBlockFrom n e x
+    own_blocks x has = ⊎_elim (λ first. reach.comes.blocks.own x first) (λ fill. Contains-append_right (option_to_list (brought_block n e)) (buffer ++ filter_map cached_block a.held.cache.kept.held) x.value (near x.value (fill_near pass.blocks pass.fills x fill))) (Contains-append_cases reach.comes.blocks.put (map at_own_height pass.blocks) x has)
 
     cert_near : (x : At Finalization) → Contains pass.certs x → IsCertFrom n e x
     cert_near x has = is.finals_near x.value (pass.certs_cached x has)
 
-    own_certs : (x : At Finalization) → Contains (reach.put_certs ++ pass.certs) x → IsCertFrom n e x
-    own_certs x has = ⊎_elim (λ first. reach.own_certs x first) (λ fill. cert_near x fill) (Contains-append_cases reach.put_certs pass.certs x has)
+    own_certs : (x : At Finalization) → Contains (reach.comes.certs.put ++ pass.certs) x → IsCertFrom n e x
+    own_certs x has = ⊎_elim (λ first. reach.comes.certs.own x first) (λ fill. cert_near x fill) (Contains-append_cases reach.comes.certs.put pass.certs x has)
 
     certificates : CertificatesFrom n e n'
     certificates = record { entered = entered; own = λ s f storing told none. own_is s f storing told none }
@@ -285,18 +264,18 @@ module _ {P E : Type 0} (life : Remembered P E) (config : Config) (chain : Chain
         entered h f at_h = by (value_at u.held.certs.held h) refl
           where
             by : (o : Option Finalization) → value_at u.held.certs.held h ≡ o → (value_at a.held.certs.held h ≡ Some f) ⊎ IsCertFrom n e (record { height = h; value = f })
-            by (Some g) there = reach.certificates.entered h f (there ∙ (sym (ran.kept_certs h g there) ∙ at_h))
+            by (Some g) there = reach.comes.certificates.entered h f (there ∙ (sym (ran.kept_certs h g there) ∙ at_h))
             by None none = ⊎_elim (λ old. absurd (let has : has_height u.held.certs.held h ≡ true = has_height-from_contains u.held.certs.held (record { height = h; value = f }) old in let no : false ≡ true = sym (ap is_some none) ∙ has in cc))
                 (λ new. inr (cert_near (record { height = h; value = f }) new)) (ran.certs_from (record { height = h; value = f }) (Contains-from_value t.held.certs.held h f at_h))
 
         own_is : (s : Storing) (f : Finalization) → storing_of n e ≡ Some s → told_finalization n e ≡ Some f → value_at a.held.certs.held s.height ≡ None → (value_at t.held.certs.held s.height ≡ None) ⊎ (value_at t.held.certs.held s.height ≡ Some f)
         own_is s f storing told none = ⊎_elim (λ lacks. absurd (let has : has_height u.held.certs.held s.height ≡ true = subst (λ o. IfSome o (λ q. IsTrue (has_height u.held.certs.held q.height))) storing is.stored_cert in let no : false ≡ true = sym (ap is_some lacks) ∙ has in cc))
-            (λ there. inr (ran.kept_certs s.height f there)) (reach.certificates.own s f storing told none)
+            (λ there. inr (ran.kept_certs s.height f there)) (reach.comes.certificates.own s f storing told none)
 
     -- WRITES
 
     none_before : (h : ℕ) → is_repaired n (own ++ []) (node_of (at life u) buffer waiting) h ≡ false
-    none_before h = sym (reach.writes.by_repair h) ∙ ap (λ xs. list_any (λ k. k == h) xs) reach.no_repair
+    none_before h = sym (reach.comes.writes.by_repair h) ∙ ap (λ xs. list_any (λ k. k == h) xs) reach.no_repair
 
     by_repair : (h : ℕ) → list_any (λ k. k == h) put ≡ is_repaired n (own ++ []) n' h
     by_repair h = by (list_any (λ k. k == h) put) refl
@@ -310,7 +289,7 @@ module _ {P E : Type 0} (life : Remembered P E) (config : Config) (chain : Chain
             tested : (c : Bool) → has_height a.held.blocks.held h ≡ c → c ≡ false
             tested false lacks = refl
             tested true has = absurd (let (v, at_h) = value-from_has_height a.held.blocks.held h has in
-                let there : has_height u.held.blocks.held h ≡ true = has_height-from_value u.held.blocks.held h v (reach.blocks.held h v (let zero_bound : blocks_from n e no_floor ≡ 0 = is.blocks_from_none in omega arith) at_h) in
+                let there : has_height u.held.blocks.held h ≡ true = has_height-from_value u.held.blocks.held h v (reach.comes.blocks.keeps.held h v (let zero_bound : blocks_from n e no_floor ≡ 0 = is.blocks_from_none in omega arith) at_h) in
                 let no : false ≡ true = sym none ∙ there in cc)
 
         unowned : has_height u.held.blocks.held h ≡ false → list_any (λ k. k == h) (own ++ []) ≡ false
@@ -332,11 +311,8 @@ module _ {P E : Type 0} (life : Remembered P E) (config : Config) (chain : Chain
         has_fill [] xs new any = absurd (let no : false ≡ true = any in cc)
         has_fill (b ∷ bs) xs new any = tested (b.height == h) refl any (has_fill bs (with_fill xs b) new.1)
           where
-            same_of : (i j : ℕ) → (i == j) ≡ true → i ≡ j
-            same_of i j so = grind (arith, nat_tests)
-
             tested : (c : Bool) → (b.height == h) ≡ c → (c || any_height bs h) ≡ true → (IsTrue (any_height bs h) → IsTrue (has_height (with_fills (with_fill xs b) bs) h)) → IsTrue (has_height (with_fills (with_fill xs b) bs) h)
-            tested true same there rest = subst (λ k. IsTrue (has_height (with_fills (with_fill xs b) bs) k)) (same_of b.height h same) (with_fills-keeps (with_fill xs b) bs b.height (with_fill-has xs b new.0))
+            tested true same there rest = subst (λ k. IsTrue (has_height (with_fills (with_fill xs b) bs) k)) (eqb-true b.height h same) (with_fills-keeps (with_fill xs b) bs b.height (with_fill-has xs b new.0))
             tested false other there rest = rest there
 
         same_processed : (q : Bool) → (nat_lt (height_of t.held.processed) h && q) ≡ (nat_lt (height_of u.held.processed) h && q)
@@ -371,9 +347,9 @@ module _ {P E : Type 0} (life : Remembered P E) (config : Config) (chain : Chain
       blocking = 0;
       within = omega arith;
       at_least = omega arith;
-      covered = ap (λ (w : Writing). w.covered) ran.writes ∙ (reach.writes.covered ∙ ap (λ k. max (max a.held.writes.covered (finished_position a.held.writes.syncs e)) k) reach.unblocked);
+      covered = ap (λ (w : Writing). w.covered) ran.writes ∙ (reach.comes.writes.covered ∙ ap (λ k. max (max a.held.writes.covered (finished_position a.held.writes.syncs e)) k) reach.unblocked);
       uncovered = ap (λ (w : Writing). w.uncovered) ran.writes ∙ (ap (λ us. us ++ put) is.uncovered ∙ (append_assoc a.held.writes.uncovered own put ∙ sym (ap (λ k. drop k (a.held.writes.uncovered ++ (own ++ put))) minus)));
-      syncs = ap (λ (w : Writing). w.syncs) ran.writes ∙ reach.writes.syncs;
+      syncs = ap (λ (w : Writing). w.syncs) ran.writes ∙ reach.comes.writes.syncs;
     }
       where
         minus : t.held.writes.covered - a.held.writes.covered ≡ 0
@@ -388,11 +364,8 @@ module _ {P E : Type 0} (life : Remembered P E) (config : Config) (chain : Chain
     filled [] h any = absurd (let no : false ≡ true = any in cc)
     filled (b ∷ bs) h any = by (b.height == h) refl any (filled bs h)
       where
-        same_of : (i j : ℕ) → (i == j) ≡ true → i ≡ j
-        same_of i j so = grind (arith, nat_tests)
-
         by : (c : Bool) → (b.height == h) ≡ c → (c || any_height bs h) ≡ true → (IsTrue (any_height bs h) → (d : Block) × Contains bs d × (d.height ≡ h)) → (d : Block) × Contains (b ∷ bs) d × (d.height ≡ h)
-        by true same there rest = (b, (zero, omega arith, refl), same_of b.height h same)
+        by true same there rest = (b, (zero, omega arith, refl), eqb-true b.height h same)
         by false other there rest = let (d, has, at_h) = rest there in (d, (suc has.0, (let low = has.1 in omega arith), has.2), at_h)
 
     with_fills_value : (xs : List (At Block)) (bs : List Block) (h : ℕ) (b : Block) → value_at xs h ≡ Some b → value_at (with_fills xs bs) h ≡ Some b
@@ -411,18 +384,14 @@ module _ {P E : Type 0} (life : Remembered P E) (config : Config) (chain : Chain
         put_value : (p : Bool) → is_held xs c ≡ p → value_at (with_fill xs c) c.height ≡ Some c
         put_value true held = absurd (let no : true ≡ false = sym held ∙ new.0 in cc)
         put_value false free = subst (λ (p : Bool). value_at (if p then xs else xs ++ at_own_height c ∷ []) c.height ≡ Some c) (sym free)
-            (value_at-append xs (at_own_height c ∷ []) c.height ∙ (ap (λ o. option_or o (value_at (at_own_height c ∷ []) c.height)) (missing-from_has_height xs c.height (left_false (has_height xs c.height) _ free)) ∙ value_at-one c.height c))
-          where
-            left_false : (p q : Bool) → (p || q) ≡ false → p ≡ false
-            left_false true q is_false = absurd (let no : true ≡ false = is_false in cc)
-            left_false false q is_false = refl
+            (value_at-append xs (at_own_height c ∷ []) c.height ∙ (ap (λ o. option_or o (value_at (at_own_height c ∷ []) c.height)) (missing-from_has_height xs c.height (not_first (has_height xs c.height) _ free)) ∙ value_at-one c.height c))
     fill_value xs (c ∷ bs) b new (suc k, low, same) = fill_value (with_fill xs c) bs b new.1 (k, omega arith, same)
 
     the_fill : (h : ℕ) (b : Block) → IsTrue (list_any (λ k. k == h) put) → value_at t.held.blocks.held h ≡ Some b → Contains pass.blocks b × (b.height ≡ h)
     the_fill h b any at_h =
         let (c, has, own_h) = filled pass.blocks h any in
         let there : value_at t.held.blocks.held c.height ≡ Some c = subst (λ xs. value_at xs c.height ≡ Some c) (sym ran.blocks) (fill_value u.held.blocks.held pass.blocks c pass.new has) in
-        let same : c ≡ b = some_value c b (sym there ∙ (ap (value_at t.held.blocks.held) own_h ∙ at_h)) in
+        let same : c ≡ b = same_Some c b (sym there ∙ (ap (value_at t.held.blocks.held) own_h ∙ at_h)) in
         (subst (Contains pass.blocks) same has, ap (λ (d : Block). d.height) (sym same) ∙ own_h)
 
     fill_of_chain : (bs : List Block) → AllByRecursion (IsFill chain (buffer ++ filter_map cached_block u.held.cache.kept.held)) bs → (b : Block) → Contains bs b → Contains (buffer ++ filter_map cached_block u.held.cache.kept.held) b
@@ -441,7 +410,7 @@ module _ {P E : Type 0} (life : Remembered P E) (config : Config) (chain : Chain
 
         among : (b : Block) → Contains (filter_map cached_block u.held.cache.kept.held) b → Contains (filter_map cached_block entries) b
         among b has = AllByRecursion-contains (Contains (filter_map cached_block entries)) (filter_map cached_block u.held.cache.kept.held) b
-            (all_found_from cached_block (Contains (filter_map cached_block entries)) u.held.cache.kept.held (λ x c there found. all_found_of cached_block (Contains (filter_map cached_block entries)) entries x c (AllByRecursion-from_contains (Contains (filter_map cached_block entries)) (filter_map cached_block entries) (λ d inside. inside)) (reach.cache.advances.nothing_else x there) found)) has
+            (all_found_from cached_block (Contains (filter_map cached_block entries)) u.held.cache.kept.held (λ x c there found. all_found_of cached_block (Contains (filter_map cached_block entries)) entries x c (AllByRecursion-from_contains (Contains (filter_map cached_block entries)) (filter_map cached_block entries) (λ d inside. inside)) (reach.comes.cache.advances.nothing_else x there) found)) has
 
         hand : (b : Block) → Contains (buffer ++ filter_map cached_block u.held.cache.kept.held) b → Contains (repairs_from config n e no_floor n') b
         hand b has = subst (λ c. Contains (buffer ++ filter_map cached_block (entries_with_puts config n c.kept.held e no_floor)) b) (sym cache_is)
@@ -477,30 +446,11 @@ module _ {P E : Type 0} (life : Remembered P E) (config : Config) (chain : Chain
 
     cache_moves : MovesCache config chain a (at life t) e buffer waiting
     cache_moves = record {
-      put = reach.cache.put;
-      prunes = reach.cache.prunes;
-      own = reach.cache.own;
-      leaves = subst (λ h. LeavesCache (left_of a.held.cache.kept) a.held.lowests reach.cache.put reach.cache.prunes (left_of h.cache.kept) h.lowests) (sym ran.same) reach.cache.leaves;
-      advances = subst (λ h. AdvancesCache config n e no_floor (node_of (record (at life t) { held = h }) buffer waiting)) (sym (ran.same ∙ ap (λ (w : Writing). record u.held { blocks = t.held.blocks; certs = t.held.certs; writes = w; watches = t.held.watches }) ran.writes)) (record {
-        kept = reach.cache.advances.kept;
-        nothing_else = reach.cache.advances.nothing_else;
-        stays_sure = reach.cache.advances.stays_sure;
-        stays = reach.cache.advances.stays;
-        first_stays = reach.cache.advances.first_stays;
-        synced = reach.cache.advances.synced;
-        finished = reach.cache.advances.finished;
-        lowest = reach.cache.advances.lowest;
-        lowests = reach.cache.advances.lowests;
-        own_lowest = reach.cache.advances.own_lowest;
-        cache_syncs = record {
-          still = reach.cache.advances.cache_syncs.still;
-          still_open = reach.cache.advances.cache_syncs.still_open;
-          started = reach.cache.advances.cache_syncs.started;
-          started_open = reach.cache.advances.cache_syncs.started_open;
-          are = reach.cache.advances.cache_syncs.are;
-        };
-        witnessed = reach.cache.advances.witnessed;
-      });
+      put = reach.comes.cache.put;
+      prunes = reach.comes.cache.prunes;
+      own = reach.comes.cache.own;
+      leaves = subst (λ h. LeavesCache (left_of a.held.cache.kept) a.held.lowests reach.comes.cache.put reach.comes.cache.prunes (left_of h.cache.kept) h.lowests) (sym ran.same) reach.comes.cache.leaves;
+      advances = AdvancesCache-beside config n e no_floor (at life u) (at life t) buffer buffer waiting waiting ran.same reach.comes.cache.advances;
     }
 
     grew : Grew u.held (written_row pass.blocks pass.certs) t.held
@@ -515,25 +465,37 @@ module _ {P E : Type 0} (life : Remembered P E) (config : Config) (chain : Chain
     -- so the event has reached that scene
     pub Reaches-passed : ReachesBy config chain a e buffer waiting (tips ++ ran.tips) pass.asks (at life t)
     Reaches-passed = record {
-      no_effect = reach.no_effect;
-      kept = ap (λ l. l.out) ran.life ∙ reach.kept;
-      next_ack = ap (λ l. l.next_ack) ran.life ∙ reach.next_ack;
-      next_sync = ap (λ (w : Writing). w.next_sync) ran.writes ∙ reach.next_sync;
-      sizes = ap (λ l. l.sizes) ran.life ∙ reach.sizes;
-      processed = processed_is ∙ reach.processed;
-      cutoff = ap (λ h. h.cutoff) ran.same ∙ reach.cutoff;
-      blocks = blocks_kept;
-      certs = certs_kept;
-      put_blocks = reach.put_blocks ++ map at_own_height pass.blocks;
-      put_certs = reach.put_certs ++ pass.certs;
-      blocks_grown = Grown-then a.held.blocks reach.put_blocks u.held.blocks (map at_own_height pass.blocks) t.held.blocks reach.blocks_grown (Grown-blocks u.held t.held (written_row pass.blocks pass.certs) refl grew);
-      certs_grown = Grown-then a.held.certs reach.put_certs u.held.certs pass.certs t.held.certs reach.certs_grown (Grown-certs u.held t.held (written_row pass.blocks pass.certs) refl grew);
-      of_blocks = AllByRecursion-append (λ x. IsBlockAt chain x.height x.value) reach.put_blocks (map at_own_height pass.blocks) reach.of_blocks (of_fills pass.blocks pass.fills);
-      of_certs = AllByRecursion-append (λ x. Finalizes chain x.height x.value.round x.value.payload) reach.put_certs pass.certs reach.of_certs pass.of_certs;
-      own_blocks = own_blocks;
-      own_certs = own_certs;
-      certificates = certificates;
-      writes = writes;
+      comes = record {
+        no_part = reach.comes.no_part;
+        kept = ap (λ l. l.out) ran.life ∙ reach.comes.kept;
+        next_ack = ap (λ l. l.next_ack) ran.life ∙ reach.comes.next_ack;
+        next_sync = ap (λ (w : Writing). w.next_sync) ran.writes ∙ reach.comes.next_sync;
+        sizes = ap (λ l. l.sizes) ran.life ∙ reach.comes.sizes;
+        processed = processed_is ∙ reach.comes.processed;
+        cutoff = ap (λ h. h.cutoff) ran.same ∙ reach.comes.cutoff;
+        blocks = record {
+          keeps = blocks_kept;
+          put = reach.comes.blocks.put ++ map at_own_height pass.blocks;
+          grown = Grown-then a.held.blocks reach.comes.blocks.put u.held.blocks (map at_own_height pass.blocks) t.held.blocks reach.comes.blocks.grown (Grown-blocks u.held t.held (written_row pass.blocks pass.certs) refl grew);
+          of_chain = AllByRecursion-append (λ x. IsBlockAt chain x.height x.value) reach.comes.blocks.put (map at_own_height pass.blocks) reach.comes.blocks.of_chain (of_fills pass.blocks pass.fills);
+          own = own_blocks;
+        };
+        certs = record {
+          keeps = certs_kept;
+          put = reach.comes.certs.put ++ pass.certs;
+          grown = Grown-then a.held.certs reach.comes.certs.put u.held.certs pass.certs t.held.certs reach.comes.certs.grown (Grown-certs u.held t.held (written_row pass.blocks pass.certs) refl grew);
+          of_chain = AllByRecursion-append (λ x. Finalizes chain x.height x.value.round x.value.payload) reach.comes.certs.put pass.certs reach.comes.certs.of_chain pass.of_certs;
+          own = own_certs;
+        };
+        certificates = certificates;
+        writes = writes;
+        are_tips = both_tips tips ran.tips reach.comes.are_tips ran.are_tips;
+        tips_rise = both_rise a.life.tip u.life.tip t.life.tip tips ran.tips reach.comes.tips_rise ran.rise;
+        tips_chain = both_chain chain tips ran.tips reach.comes.tips_chain ran.tips_chain;
+        cache = cache_moves;
+        stored = IfSome-more (IsStored (node_of (at life u) buffer waiting)) (IsStored n') stored_on (storing_of n e) reach.comes.stored;
+        stored_late = IfSome-more (IsStoredLate n no_floor (node_of (at life u) buffer waiting)) (IsStoredLate n no_floor n') (λ s late with_it low held. kept_cert s.height (late with_it low held)) (storing_of n e) reach.comes.stored_late;
+      };
       repairs = repairs;
       unrepaired = λ k not_pass. absurd (let no : false ≡ true = sym not_pass ∙ is.passes k in cc);
       unblocked = λ k not_blocking. refl;
@@ -542,16 +504,4 @@ module _ {P E : Type 0} (life : Remembered P E) (config : Config) (chain : Chain
       idle = λ k not_pass. absurd (let no : false ≡ true = sym not_pass ∙ is.passes k in cc);
       repaired = λ k pass_k. is.law;
       fetches = inr (is.may, pass.honest);
-      are_tips = both_tips tips ran.tips reach.are_tips ran.are_tips;
-      tips_rise = both_rise a.life.tip u.life.tip t.life.tip tips ran.tips reach.tips_rise ran.rise;
-      tips_chain = both_chain chain tips ran.tips reach.tips_chain ran.tips_chain;
-      cache = cache_moves;
-      stored = IfSome-more (IsStored (node_of (at life u) buffer waiting)) (IsStored n') stored_on (storing_of n e) reach.stored;
-      stored_late = IfSome-more (IsStoredLate n no_floor (node_of (at life u) buffer waiting)) (IsStoredLate n no_floor n') (λ s late with_it low held. kept_cert s.height (late with_it low held)) (storing_of n e) reach.stored_late;
-      no_query = reach.no_query;
-      no_fault = reach.no_fault;
-      sends = reach.sends;
-      answers = reach.answers;
-      subscriptions = reach.subscriptions;
-      no_syncs = reach.no_syncs;
     }

@@ -66,9 +66,7 @@ with_watch watches cache_store w = record watches { cache = w }
 
 watch_of-with : (watches : Watches) (s : StoreName) (w : Watch) → watch_of (with_watch watches s w) s ≡ w
 watch_of-with watches block_store w = refl
-watch_of-with watches cert_store w = refl
-watch_of-with watches meta_store w = refl
-watch_of-with watches cache_store w = refl
+watch_of-with watches _ w = refl
 
 -- one store's watch, or another's that stands
 same_or_other : (s t : StoreName) → (s ≡ t) ⊎ (((watches : Watches) (w : Watch) → watch_of (with_watch watches s w) t ≡ watch_of watches t) × (s ≡ t → ⊥))

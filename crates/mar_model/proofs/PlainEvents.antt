@@ -1,5 +1,5 @@
 -- Events that write nothing.
-use Rattle.std.proofs.Common.{◌≡◌, inl, IsTrue, ◌<◌, Some, None, Contains, ℕ, ◌-◌, max, List, [], ◌++◌, drop, Bool, true, false, ◌&&◌, not, ◌==◌, nat_lt, refl, sym, ◌∙◌, ap, subst, arith, append-nil}
+use Rattle.std.proofs.Common.{◌≡◌, inl, IsTrue, Some, None, ℕ, ◌-◌, max, List, [], ◌++◌, drop, Bool, true, false, ◌&&◌, not, ◌==◌, nat_lt, refl, sym, ◌∙◌, ap, subst, arith, append-nil}
 use Rattle.std.specs.List.{list_any}
 use Rattle.mar_cert.specs.Block.{Block}
 use Rattle.mar_key.specs.Processed.{height_of}
@@ -73,6 +73,3 @@ EntersAt-same heights n n' blocks certs = record {
 -- others may wait beside it
 pub Certificates-beside : {P E : Type 0} (n : Node) (m : Seen P E) (e : Event) (buffer : List Block) (waiting waiting' : Waiting) → CertificatesFrom n e (node_of m buffer waiting) → CertificatesFrom n e (node_of m buffer waiting')
 Certificates-beside n m e buffer waiting waiting' from = record { entered = from.entered; own = from.own }
-
-pub nothing_put : {T X : Type 0} (x : T) → Contains [] x → X
-nothing_put x has = absurd (let lt : has.0 < 0 = has.1 in omega arith)

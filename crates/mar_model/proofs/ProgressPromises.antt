@@ -28,12 +28,12 @@ use Rattle.mar_model.specs.Step.{IsFront, Report}
 use Rattle.mar_model.proofs.AckEvent as ack
 use Rattle.mar_model.proofs.CacheOver.{OwnCache, cached_as, own_pruned}
 use Rattle.mar_model.proofs.Cutting.{Cuts-before, never}
+use Rattle.mar_model.proofs.EntryLists.{contains_none}
 use Rattle.mar_model.proofs.EventPromises as event
 use Rattle.mar_model.proofs.FinalizationEvent as final
 use Rattle.mar_model.proofs.FinalizationEvent.{IsSyncedAfter}
 use Rattle.mar_model.proofs.Growing.{Grown, Grown-certs}
 use Rattle.mar_model.proofs.Handing.{Hears-nothing, HearsFront-whole, Ran}
-use Rattle.mar_model.proofs.PlainEvents.{nothing_put}
 use Rattle.mar_model.proofs.Promises.{dispatched, undispatched}
 
 -- it rests as long as what is outstanding, processed and held is the same
@@ -146,11 +146,11 @@ module _ {P E : Type 0} (epochs : Epochs) (inner : List ℕ → List ℕ) (parti
     promise-undrained told heard heard' x nested certs_nested asks lost (inl usual) loaded config chain waiting set step =
         event.quiet_cut epochs inner partition a buffer config chain waiting (ack_marked t as_mark) step refl (λ fault. refl) told told heard heard' (written_prunes acked_prunes) x (Hears-nothing told)
         (subst (λ cs. HearsFront heard cs heard') (asks_are loaded config chain waiting set step nested certs_nested) asks)
-        refl refl (own_acked loaded config chain waiting set step nested certs_nested) tt tt (λ z has. nothing_put z has) (λ z has. nothing_put z has) lost (λ p has. nothing_put p has) usual
+        refl refl (own_acked loaded config chain waiting set step nested certs_nested) tt tt (λ z has. contains_none z has) (λ z has. contains_none z has) lost (λ p has. contains_none p has) usual
     promise-undrained told heard heard' x nested certs_nested (asks, front, asks_heard) lost (inr ends) loaded config chain waiting set step = record {
       made = made_of [] asks;
       heard = record { reports = Hears-nothing told; asks = asks_heard; sends = refl; answers = refl };
-      cuts = Cuts-before config chain a (ack_marked t as_mark) buffer waiting a.life.tip step.good refl [] ([], refl) [] asks a.life.tip (written_prunes acked_prunes) x tt refl tt refl refl (own_acked loaded config chain waiting set step nested certs_nested) tt tt (λ z has. nothing_put z has) (λ z has. nothing_put z has) lost (λ p has. nothing_put p has)
+      cuts = Cuts-before config chain a (ack_marked t as_mark) buffer waiting a.life.tip step.good refl [] ([], refl) [] asks a.life.tip (written_prunes acked_prunes) x tt refl tt refl refl (own_acked loaded config chain waiting set step nested certs_nested) tt tt (λ z has. contains_none z has) (λ z has. contains_none z has) lost (λ p has. contains_none p has)
           (λ is. dropped_first-some (after_given marked.life.out) ends.oldest ends.dropped ∙ ap Some (sym ends.fault)) (never (is_refused_floor (ack_marked t as_mark) x.fault) refl) (λ is. ends.unsynced)
           (inl (subst (λ cs. IsFront asks cs) (asks_are loaded config chain waiting set step nested certs_nested) front));
     }
@@ -169,7 +169,7 @@ module _ {P E : Type 0} (epochs : Epochs) (inner : List ℕ → List ℕ) (parti
       pub promise-ack_unsynced : (told : Option (List Report)) (heard heard' : Option (List Call)) (x : Ending) → IsNested a.held.blocks → IsNested a.held.certs → Hears heard (retire_asks epochs a.held.certs.held a.held.cutoff (given_front marked.life.out)) heard' → Loses a.held (record (written_pair (pair_of d.held.processed d.held.cutoff)) { prunes = acked_prunes }) x → IsUsual x.fault → KeepsStep epochs inner a (ack_marked t as_mark ∷ []) buffer (heard_by told heard) (heard_by told heard') (Err x)
       promise-ack_unsynced told heard heard' x nested certs_nested asks lost usual loaded config chain waiting set step =
           event.quiet_cut epochs inner partition a buffer config chain waiting (ack_marked t as_mark) step refl (λ fault. refl) told told heard heard' (record (written_pair (pair_of d.held.processed d.held.cutoff)) { prunes = acked_prunes }) x (Hears-nothing told)
-          (HearsFront-whole heard _ heard' (subst (λ cs. Hears heard cs heard') (asks_are loaded config chain waiting set step nested certs_nested) asks)) refl refl (own_acked loaded config chain waiting set step nested certs_nested) tt tt (λ z has. nothing_put z has) (λ z has. nothing_put z has) lost
+          (HearsFront-whole heard _ heard' (subst (λ cs. Hears heard cs heard') (asks_are loaded config chain waiting set step nested certs_nested) asks)) refl refl (own_acked loaded config chain waiting set step nested certs_nested) tt tt (λ z has. contains_none z has) (λ z has. contains_none z has) lost
           (λ p has. ack.MayBeLeft-drained config chain step.lawful (event.partition_of epochs inner partition a buffer config set.epochs_are) a t as_mark buffer waiting nested certs_nested step.good loaded cached is_drained d (of_config config set.epochs_are) x.remains.ended.blocks_sure (λ h v at. lost.leaves.blocks.sure h v (omega arith) at) p has) usual
 
       pub promise-acked : (told told' : Option (List Report)) (heard heard' : Option (List Call)) (m : Seen P E) (result : Result (Seen P E) Ending) → IsNested a.held.blocks → IsNested a.held.certs → m ≡ record d { held = record d.held { pairs = pair_of d.held.processed d.held.cutoff ∷ []; watches = m.held.watches } } → Hears heard (retire_asks epochs a.held.certs.held a.held.cutoff (given_front marked.life.out)) heard' → Ran m told told' result → KeepsStep epochs inner a (ack_marked t as_mark ∷ []) buffer (heard_by told heard) (heard_by told' heard') result

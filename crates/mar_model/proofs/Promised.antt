@@ -9,7 +9,7 @@ use Rattle.mar_store.specs.Kept.{value_at}
 use Rattle.mar_model.specs.Acts.{AreLawful}
 use Rattle.mar_model.specs.Event.{Event, ack_marked, block_buffered, buffer_ended, life_started, message_told, peer_answered, serve_ended, sync_finished}
 use Rattle.mar_model.specs.Held.{Ending, Seen}
-use Rattle.mar_model.specs.Messages.{Message, report_finalization, certify, get_anchor, get_block, get_finalization, get_info, get_processed, get_verified, prepared, proposed, report_certification, report_notarization, verified}
+use Rattle.mar_model.specs.Messages.{Message, report_finalization, certify, get_anchor, get_block, get_finalization, get_info, get_processed, get_verified, hint_finalized, prepared, proposed, report_certification, report_notarization, verified}
 use Rattle.mar_model.specs.OpenSyncs.{is_cache_sync}
 use Rattle.mar_model.specs.Moves.{found_at_hand}
 use Rattle.mar_model.specs.Plans.{Found, RunsPlan, found_by, plan_of, finish_plan}
@@ -24,13 +24,15 @@ use Rattle.mar_model.proofs.PromisedStart.{start_cut, start_promise}
 use Rattle.mar_model.proofs.SyncPromise.{at, KeepsPlan}
 use Rattle.mar_model.proofs.PromisedKeeping.{cache_finished, kept_verified, kept_proposed, kept_certified}
 use Rattle.mar_model.proofs.PromisedNotarization.{notarized}
-use Rattle.mar_model.proofs.PromisedQueries.{certification, sent, queried}
+use Rattle.mar_model.proofs.PromisedQueries.{certification, hinted, sent, queried}
 
--- A message that reports no finalization, as callers tell it: reports and prepared blocks take no ticket, what is answered takes one.
+-- A message that reports no finalization, as callers tell it: reports, prepared blocks and hints take no ticket, what is answered
+-- takes one.
 abbrev pub IsOtherMessage : Option ℕ → Message → Type 0
 IsOtherMessage None (report_notarization f) = ⊤
 IsOtherMessage None (report_certification f) = ⊤
 IsOtherMessage None (prepared r peers b) = ⊤
+IsOtherMessage None (hint_finalized h peers) = ⊤
 IsOtherMessage (Some t) (get_info id) = ⊤
 IsOtherMessage (Some t) (get_block id) = ⊤
 IsOtherMessage (Some t) (get_finalization h) = ⊤
@@ -97,6 +99,7 @@ module _ {P E : Type 0} (epochs : Epochs) (inner : List ℕ → List ℕ) (parti
   message None (report_notarization f) is found finds = notarized old.life epochs inner buffer s law f found finds
   message None (report_certification f) is found finds = certification old.life epochs inner buffer s law f
   message None (prepared r peers b) is found finds = sent old.life epochs inner buffer s law r peers b
+  message None (hint_finalized h peers) is found finds = hinted old.life epochs inner buffer s law h peers
   message (Some k) (get_info id) is found finds = queried old.life epochs inner buffer s law k (get_info id) refl
       (or_none (info inner s.held.blocks.held s.held.certs.held id)) refl
   message (Some k) (get_block id) is found finds = queried old.life epochs inner buffer s law k (get_block id) refl

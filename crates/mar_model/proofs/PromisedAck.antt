@@ -222,9 +222,6 @@ module _ {P E : Type 0} (life : Remembered P E) (epochs : Epochs) (inner : List 
     not_dropped = drains.not_dropped;
   })
 
-  abbrev settles : List Task
-  settles = does (progresses sync_progress) ∷ dispatches ∷ []
-
   module _ (d : Scene) (drained : Drained d) where
     synced : (m : Scene) → DoesTask inner (does (progresses sync_progress)) d m
         → at life m ≡ record (at life d) { held = record d.held { pairs = pair_of d.held.processed d.held.cutoff ∷ []; watches = m.held.watches } }

@@ -24,13 +24,13 @@ use Rattle.mar_model.specs.Chain.{Chain}
 use Rattle.mar_model.specs.Config.{Config}
 use Rattle.mar_model.specs.Answers.{finished_answers}
 use Rattle.mar_model.proofs.CacheEvents.{LeavesArchives}
-use Rattle.mar_model.proofs.CacheSyncEvent as synced
+use Rattle.mar_model.proofs.CacheEvents as synced
 use Rattle.mar_model.proofs.CertifiedBlocks.{verified-stays}
 use Rattle.mar_model.proofs.EntryLists.{contains_none, one_of}
 use Rattle.mar_model.proofs.Growing.{WithinWritten-refl}
 use Rattle.mar_model.proofs.Handing.{Hears-nothing}
 use Rattle.mar_model.proofs.KeptEach.{KeepsEach-for, told_kept}
-use Rattle.mar_model.proofs.KeptPromises.{agrees_told, kept}
+use Rattle.mar_model.proofs.KeptEvents.{agrees_told, kept}
 use Rattle.mar_model.proofs.Owning.{quiet_cut}
 use Rattle.mar_model.proofs.Owns.{node_at}
 use Rattle.mar_model.proofs.SyncPromise.{at, done_as, KeepsPlan}
@@ -65,7 +65,7 @@ module _ {P E : Type 0} (life : Remembered P E) (epochs : Epochs) (inner : List 
 
     -- VERIFIED BLOCKS
 
-    verified_quiet : (config : Config) (waiting : Waiting) → LeavesArchives config (node_at s buffer waiting) (message_told (Some k) (verified r b))
+    verified_quiet : (config : Config) (waiting : Waiting) → LeavesArchives config (node_at s buffer waiting) (message_told (Some k) (verified r b)) []
     verified_quiet config waiting = record { effect = refl; undrained = refl; processed = refl; cutoff = refl; storing = refl; position = refl; syncs = refl; witnessing = refl; no_fault = refl; asks = refl; subscriptions = refl; unrefused = λ fault. refl; once = refl; no_pass = λ n'. refl }
 
     pub kept_verified : KeepsPlan life epochs inner buffer s ((does (keeps_for (keep_verified r b k)) ∷ [])) (message_told (Some k) (verified r b))
@@ -95,6 +95,7 @@ module _ {P E : Type 0} (life : Remembered P E) (epochs : Epochs) (inner : List 
           }) (Hears-nothing s.heard.sends) (ap (λ xs. s.heard.answers ++ xs) (told_kept r _ _ k s.held u.held did.0 did.1 loaded)) loaded);
       broke = quiet_cut life epochs inner buffer s law (message_told (Some k) (verified r b)) (put ∷ []) (does (keeps_for (keep_verified r b k)) ∷ [])
           (λ loaded config chain waiting set step. record {
+            calls = [];
             quiet = verified_quiet config waiting;
             own = λ y has. has;
             finalizations = tt;
@@ -109,7 +110,7 @@ module _ {P E : Type 0} (life : Remembered P E) (epochs : Epochs) (inner : List 
     -- PROPOSED BLOCKS
 
     module _ (peers : Peers) where
-      proposed_quiet : (config : Config) (waiting : Waiting) → LeavesArchives config (node_at s buffer waiting) (message_told (Some k) (proposed r peers b))
+      proposed_quiet : (config : Config) (waiting : Waiting) → LeavesArchives config (node_at s buffer waiting) (message_told (Some k) (proposed r peers b)) []
       proposed_quiet config waiting = record { effect = refl; undrained = refl; processed = refl; cutoff = refl; storing = refl; position = refl; syncs = refl; witnessing = refl; no_fault = refl; asks = refl; subscriptions = refl; unrefused = λ fault. refl; once = refl; no_pass = λ n'. refl }
 
       pub kept_proposed : KeepsPlan life epochs inner buffer s ((does (says (send (sent_block r peers b))) ∷ does (keeps_for (keep_verified r b k)) ∷ [])) (message_told (Some k) (proposed r peers b))
@@ -145,6 +146,7 @@ module _ {P E : Type 0} (life : Remembered P E) (epochs : Epochs) (inner : List 
         broke = quiet_cut life epochs inner buffer s law (message_told (Some k) (proposed r peers b)) (put ∷ [])
             (does (says (send (sent_block r peers b))) ∷ does (keeps_for (keep_verified r b k)) ∷ [])
             (λ loaded config chain waiting set step. record {
+              calls = [];
               quiet = proposed_quiet config waiting;
               own = λ y has. has;
               finalizations = tt;
@@ -158,7 +160,7 @@ module _ {P E : Type 0} (life : Remembered P E) (epochs : Epochs) (inner : List 
 
     -- CERTIFIED BLOCKS
 
-    certified_quiet : (config : Config) (waiting : Waiting) → LeavesArchives config (node_at s buffer waiting) (message_told (Some k) (certify r b))
+    certified_quiet : (config : Config) (waiting : Waiting) → LeavesArchives config (node_at s buffer waiting) (message_told (Some k) (certify r b)) []
     certified_quiet config waiting = record { effect = refl; undrained = refl; processed = refl; cutoff = refl; storing = refl; position = refl; syncs = refl; witnessing = refl; no_fault = refl; asks = refl; subscriptions = refl; unrefused = λ fault. refl; once = refl; no_pass = λ n'. refl }
 
     abbrev was_verified : Bool
@@ -208,6 +210,7 @@ module _ {P E : Type 0} (life : Remembered P E) (epochs : Epochs) (inner : List 
           }) (Hears-nothing s.heard.sends) (ap (λ xs. s.heard.answers ++ xs) (told_kept r _ _ k s.held u.held did.0 did.1 loaded)) loaded);
       broke = quiet_cut life epochs inner buffer s law (message_told (Some k) (certify r b)) (notarized_entry r b ∷ []) (does (keeps_for (keep_certified r b k)) ∷ [])
           (λ loaded config chain waiting set step. record {
+            calls = [];
             quiet = certified_quiet config waiting;
             own = λ y has. has;
             finalizations = tt;
@@ -238,6 +241,7 @@ module _ {P E : Type 0} (life : Remembered P E) (epochs : Epochs) (inner : List 
           did.1.0 (ap (λ xs. s.heard.answers ++ xs) did.1.1));
       broke = λ x heard breaks. quiet_cut life epochs inner buffer s law (sync_finished k) [] (does (keeps_for (finish_kept k)) ∷ [])
           (λ loaded config chain waiting set step. record {
+            calls = [];
             quiet = synced.quiet epochs inner (at life s) buffer k config waiting not_both;
             own = λ y has. contains_none y has;
             finalizations = tt;

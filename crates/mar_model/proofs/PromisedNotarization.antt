@@ -29,7 +29,7 @@ use Rattle.mar_model.proofs.FoundBlocks.{found-is}
 use Rattle.mar_model.proofs.Growing.{WithinWritten-entry}
 use Rattle.mar_model.proofs.Handing.{Hears-nothing}
 use Rattle.mar_model.proofs.KeptEach.{KeepsEach, KeepsEach-for, KeepsEach-none, KeepsEach-then, KeepsFor-read}
-use Rattle.mar_model.proofs.KeptPromises.{kept}
+use Rattle.mar_model.proofs.KeptEvents.{kept}
 use Rattle.mar_model.proofs.KnownBlocks.{at_hand-known, known_agrees}
 use Rattle.mar_model.proofs.Owning.{quiet_cut}
 use Rattle.mar_model.proofs.Owns.{Owns, answers_in, asks_in, course_of, node_at, own_pair, sends_in}
@@ -128,7 +128,7 @@ module _ {P E : Type 0} (life : Remembered P E) (epochs : Epochs) (inner : List 
         by None = refl
         by (Some b) = refl
 
-    quiet : LeavesArchives config (node_at s buffer waiting) e
+    quiet : LeavesArchives config (node_at s buffer waiting) e []
     quiet = record {
       effect = refl;
       undrained = refl;
@@ -194,6 +194,7 @@ module _ {P E : Type 0} (life : Remembered P E) (epochs : Epochs) (inner : List 
     broke = quiet_cut life epochs inner buffer s law e put (notar_plan f found) (λ loaded config chain waiting set step.
         let (owns, asks, sends, answers) = owned loaded config chain waiting set step found.block found.is_verified in
         record {
+          calls = [];
           quiet = quiet loaded config chain waiting set step;
           own = λ y has. subst (λ xs. Contains (notarization_entry f ∷ xs) y) (sym (entries_are loaded config chain waiting set step)) has;
           finalizations = (agree loaded config chain waiting set step).0;

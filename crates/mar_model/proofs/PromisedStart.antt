@@ -18,8 +18,7 @@ use Rattle.mar_model.specs.Scene.{Scene}
 use Rattle.mar_model.proofs.Growing.{Grew-refl, WithinWritten-refl}
 use Rattle.mar_model.proofs.Handing.{Hears-nothing, Ran as Dispatched}
 use Rattle.mar_model.proofs.Outcomes.{goes_on_memory}
-use Rattle.mar_model.proofs.StartBroke.{start_broke, told-none, told-some}
-use Rattle.mar_model.proofs.StartCuts.{HasToldNewest, filling_plan}
+use Rattle.mar_model.proofs.StartCuts.{HasToldNewest, filling_plan, start_broke, told-none, told-some}
 use Rattle.mar_model.proofs.StartEvent.{promise-unloaded, promise-untold}
 use Rattle.mar_model.proofs.StartPass.{promise-passed}
 use Rattle.mar_model.proofs.Acting.{pass_quiet}

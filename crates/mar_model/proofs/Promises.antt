@@ -54,13 +54,13 @@ module _ {P E : Type 0} (config : Config) (chain : Chain) (a m : Seen P E) (e : 
 
     -- the pair of the reached node is what the event gives to the metadata
     pub pair_is : pair_of (processed_after n e no_floor) (cutoff_after config n e no_floor) ≡ pair_of m.held.processed m.held.cutoff
-    pair_is = ap₂ pair_of (sym reach.processed) (sym reach.cutoff)
+    pair_is = ap₂ pair_of (sym reach.comes.processed) (sym reach.comes.cutoff)
 
     not_below : NotBelow (option_map height_in a.held.processed) (option_map height_in m.held.processed)
     not_below =
         let before : next_after (option_map height_in a.held.processed) ≡ first_unprocessed a.held.processed = next_after-is a.held.processed in
         let after : next_after (option_map height_in m.held.processed) ≡ first_unprocessed m.held.processed = next_after-is m.held.processed in
-        let rises : first_unprocessed a.held.processed ≤ first_unprocessed m.held.processed = subst (λ p. first_unprocessed a.held.processed ≤ first_unprocessed p) (sym reach.processed) (first_unprocessed-rises n e no_floor good_before.1.heights.delivery.consecutive) in
+        let rises : first_unprocessed a.held.processed ≤ first_unprocessed m.held.processed = subst (λ p. first_unprocessed a.held.processed ≤ first_unprocessed p) (sym reach.comes.processed) (first_unprocessed-rises n e no_floor good_before.1.heights.delivery.consecutive) in
         omega arith
 
     module _ (handed : List HandedBlock) (x : Ending) (stops : Stops m handed x) where
@@ -72,18 +72,18 @@ module _ {P E : Type 0} (config : Config) (chain : Chain) (a m : Seen P E) (e : 
 
       leaves : LeavesStores config chain n e left
       leaves = record {
-        put_blocks = reach.put_blocks;
-        put_certs = reach.put_certs;
-        blocks = LeavesStore-then a.held.blocks reach.put_blocks m.held.blocks (blocks_left left) reach.blocks_grown m_blocks;
-        certs = LeavesStore-then a.held.certs reach.put_certs m.held.certs (certs_left left) reach.certs_grown stops.lost.leaves.certs;
-        of_blocks = reach.of_blocks;
-        of_certs = reach.of_certs;
-        own_blocks = reach.own_blocks;
-        own_certs = reach.own_certs;
-        put_cached = reach.cache.put;
-        prunes = reach.cache.prunes;
-        own_cache = reach.cache.own;
-        cache = LeavesCache-still (left_of a.held.cache.kept) a.held.lowests reach.cache.put reach.cache.prunes (left_of m.held.cache.kept) m.held.lowests (cache_left left) left.lowests reach.cache.leaves stops.lost.leaves.cache;
+        put_blocks = reach.comes.blocks.put;
+        put_certs = reach.comes.certs.put;
+        blocks = LeavesStore-then a.held.blocks reach.comes.blocks.put m.held.blocks (blocks_left left) reach.comes.blocks.grown m_blocks;
+        certs = LeavesStore-then a.held.certs reach.comes.certs.put m.held.certs (certs_left left) reach.comes.certs.grown stops.lost.leaves.certs;
+        of_blocks = reach.comes.blocks.of_chain;
+        of_certs = reach.comes.certs.of_chain;
+        own_blocks = reach.comes.blocks.own;
+        own_certs = reach.comes.certs.own;
+        put_cached = reach.comes.cache.put;
+        prunes = reach.comes.cache.prunes;
+        own_cache = reach.comes.cache.own;
+        cache = LeavesCache-still (left_of a.held.cache.kept) a.held.lowests reach.comes.cache.put reach.comes.cache.prunes (left_of m.held.cache.kept) m.held.lowests (cache_left left) left.lowests reach.comes.cache.leaves stops.lost.leaves.cache;
       }
 
       kept : KeepsValues m.held.blocks.sure left.blocks_sure
@@ -96,7 +96,7 @@ module _ {P E : Type 0} (config : Config) (chain : Chain) (a m : Seen P E) (e : 
       value_from_held h b low is = kept h b (sure_value m.held.blocks.held m.held.blocks.sure h b sure_held (sure_below m.held.blocks m.held.writes.uncovered h good.heights.stores.sure_blocks low (has_height-from_value m.held.blocks.held h b is)) is)
 
       blocks_are : handed_blocks (tips ++ map handed_report handed) ≡ handed
-      blocks_are = handed_after_tips tips handed reach.are_tips
+      blocks_are = handed_after_tips tips handed reach.comes.are_tips
 
       first : first_pair left.meta ≡ Some (pair_of m.held.processed m.held.cutoff)
       first = stops.lost.leaves.pairs.first ∙ ap first_pair good.heights.own_pair
@@ -104,8 +104,8 @@ module _ {P E : Type 0} (config : Config) (chain : Chain) (a m : Seen P E) (e : 
       in_order : HandedFrom left.blocks_sure a.life.next_ack (next_after (option_map height_in m.held.processed) + length (undrained_blocks n e)) handed
       in_order =
           subst (λ k. HandedFrom left.blocks_sure a.life.next_ack (k + length (undrained_blocks n e)) handed) (sym (next_after-is m.held.processed))
-          (subst (λ o. HandedFrom left.blocks_sure a.life.next_ack (first_unprocessed m.held.processed + length o) handed) reach.kept
-          (subst (λ t. HandedFrom left.blocks_sure t (first_unprocessed m.held.processed + length m.life.out) handed) reach.next_ack
+          (subst (λ o. HandedFrom left.blocks_sure a.life.next_ack (first_unprocessed m.held.processed + length o) handed) reach.comes.kept
+          (subst (λ t. HandedFrom left.blocks_sure t (first_unprocessed m.held.processed + length m.life.out) handed) reach.comes.next_ack
           (subst (λ k. HandedFrom left.blocks_sure m.life.next_ack k handed) (next_is config chain m buffer waiting good)
           (HandedFrom-held m.held.blocks.held left.blocks_sure m.held.writes.uncovered m.life.next_ack (next_in m) handed sure_from_held stops.below_barrier stops.next))))
 
@@ -124,13 +124,13 @@ module _ {P E : Type 0} (config : Config) (chain : Chain) (a m : Seen P E) (e : 
       reached = reached_after n e no_floor
 
       processed_is : reached.processed ≡ option_map height_in m.held.processed
-      processed_is = ap (option_map height_in) (sym reach.processed)
+      processed_is = ap (option_map height_in) (sym reach.comes.processed)
 
       -- a life that ended while blocks were handed over is cut there
       pub Cuts-handing : Cuts config chain n (e ∷ []) (made_of (tips ++ map handed_report handed) (own_asks config n e no_floor ++ more)) x.fault left
       Cuts-handing =
-          Cuts-left config chain a e buffer waiting good_before.0 good_before.1 reach.no_effect [] (sends_of n e, refl) (tips ++ map handed_report handed) (own_asks config n e no_floor ++ more) m.life.tip reached x.fault left
-          (tips_before_handed a.life.tip m.life.tip tips handed reach.are_tips reach.tips_rise) (tips_of_both chain tips handed reach.are_tips reach.tips_chain)
+          Cuts-left config chain a e buffer waiting good_before.0 good_before.1 reach.comes.no_part.no_effect [] (sends_of n e, refl) (tips ++ map handed_report handed) (own_asks config n e no_floor ++ more) m.life.tip reached x.fault left
+          (tips_before_handed a.life.tip m.life.tip tips handed reach.comes.are_tips reach.comes.tips_rise) (tips_of_both chain tips handed reach.comes.are_tips reach.comes.tips_chain)
           (inr (refl, subst (Contains (map (λ p. p.processed) left.meta)) (sym processed_is) (contains_first left.meta (pair_of m.held.processed m.held.cutoff) first)))
           (subst (λ p. HandedFrom left.blocks_sure a.life.next_ack (next_after p + length (undrained_blocks n e)) (handed_blocks (tips ++ map handed_report handed))) (sym processed_is)
           (subst (λ xs. HandedFrom left.blocks_sure a.life.next_ack (next_after (option_map height_in m.held.processed) + length (undrained_blocks n e)) xs) (sym blocks_are) in_order))

@@ -14,7 +14,7 @@ use Rattle.mar_model.specs.Chain.{Chain}
 use Rattle.mar_model.specs.Config.{Config}
 use Rattle.mar_model.specs.Event.{is_query, message_told, no_floor}
 use Rattle.mar_model.specs.Held.{Seen}
-use Rattle.mar_model.specs.Messages.{Identifier, Message, certify, close_ticket, forward, get_anchor, get_block, get_finalization, get_info, get_processed, get_verified, hint_finalized, hint_notarized, latest, of_digest, of_height, prepared, proposed, prune_below, report_certification, report_finalization, report_notarization, set_floor, subscribe_commitment, subscribe_digest, verified}
+use Rattle.mar_model.specs.Messages.{Identifier, Message, get_anchor, get_block, get_finalization, get_info, get_processed, get_verified, latest, of_digest, of_height}
 use Rattle.mar_model.specs.Moves.{found_at_hand}
 use Rattle.mar_model.specs.Node.{AreBlocksOf, Node, at_hand}
 use Rattle.mar_model.specs.Promise.{AreOne, Waiting, known_blocks, node_of}
@@ -45,7 +45,7 @@ module _ {P E : Type 0} (config : Config) (chain : Chain) (a : Seen P E) (buffer
 
     -- What a query on a lawful chain is: it changes and sends nothing, and is answered what is found.
     pub record IsAnswered (m : Message) : Type 0 where
-      pub idle : IsIdle config n (message_told (Some t) m)
+      pub idle : IsIdle config n (message_told (Some t) m) []
       pub sends : [] ≡ sends_of n (message_told (Some t) m)
       pub found : value_found config.inner a.held buffer m ≡ query_value config n m
       pub answers : (lowest : ℕ) → answers_of config n lowest (message_told (Some t) m) no_floor ≡ map (to t) (option_to_list (query_value config n m))
@@ -57,21 +57,7 @@ module _ {P E : Type 0} (config : Config) (chain : Chain) (a : Seen P E) (buffer
     query_is get_processed is = record { idle = record { rest = record { effect = refl; undrained = refl; processed = refl; cutoff = refl; storing = refl; position = refl; syncs = refl; witnessing = refl; no_fault = refl; asks = refl; subscriptions = refl; unrefused = λ fault. refl; once = refl; no_pass = λ n'. refl }; unput = λ after. refl; unfinished = λ xs. refl; uncovered = refl; no_syncs = λ n'. refl }; sends = refl; found = refl; answers = λ lowest. refl }
     query_is get_anchor is = record { idle = record { rest = record { effect = refl; undrained = refl; processed = refl; cutoff = refl; storing = refl; position = refl; syncs = refl; witnessing = refl; no_fault = refl; asks = refl; subscriptions = refl; unrefused = λ fault. refl; once = refl; no_pass = λ n'. refl }; unput = λ after. refl; unfinished = λ xs. refl; uncovered = refl; no_syncs = λ n'. refl }; sends = refl; found = refl; answers = λ lowest. refl }
     query_is (get_verified r) is = record { idle = record { rest = record { effect = refl; undrained = refl; processed = refl; cutoff = refl; storing = refl; position = refl; syncs = refl; witnessing = refl; no_fault = refl; asks = refl; subscriptions = refl; unrefused = λ fault. refl; once = refl; no_pass = λ n'. refl }; unput = λ after. refl; unfinished = λ xs. refl; uncovered = refl; no_syncs = λ n'. refl }; sends = refl; found = ap (λ b. Some (bytes_of b)) (verified_first r a.held.cache.kept.held); answers = λ lowest. refl }
-    query_is (report_finalization f) is = absurd cc
-    query_is (report_notarization f) is = absurd cc
-    query_is (report_certification f) is = absurd cc
-    query_is (verified r b) is = absurd cc
-    query_is (proposed r peers b) is = absurd cc
-    query_is (prepared r peers b) is = absurd cc
-    query_is (certify r b) is = absurd cc
-    query_is (hint_finalized h peers) is = absurd cc
-    query_is (set_floor f) is = absurd cc
-    query_is (prune_below h) is = absurd cc
-    query_is (hint_notarized r peers) is = absurd cc
-    query_is (subscribe_digest d fallback) is = absurd cc
-    query_is (subscribe_commitment c fallback) is = absurd cc
-    query_is (forward r d peers) is = absurd cc
-    query_is (close_ticket k) is = absurd cc
+    query_is _ is = absurd cc
 
 -- THE BLOCK THAT BACKS THE PROCESSED HEIGHT
 

@@ -6,30 +6,31 @@ use Rattle.std.proofs.lemmas.List.Elements.{Contains-append_cases, Contains-appe
 use Rattle.mar_cert.specs.Block.{Block}
 use Rattle.mar_cert.specs.Finalization.{Finalization}
 use Rattle.mar_gate.specs.Writing.{total_writes}
-use Rattle.mar_store.specs.Kept.{At, has_height, value_at}
-use Rattle.mar_store.specs.Changes.{KeepsValues}
-use Rattle.mar_store.proofs.Lookups.{AllByRecursion-append, AllByRecursion-value_at, AllByRecursion-weaker}
+use Rattle.mar_store.specs.Kept.{At, Kept, has_height, value_at}
+use Rattle.mar_store.specs.Changes.{IsNested, KeepsValues}
+use Rattle.mar_store.proofs.Lookups.{AllByRecursion-append, AllByRecursion-value_at, AllByRecursion-weaker, AllByRecursion-within}
 use Rattle.mar_key.specs.Keys.{Call, block_key, fetch, finalized_key, notarized_key, retain}
 use Rattle.mar_key.specs.Processed.{first_unprocessed}
 use Rattle.mar_model.specs.Answers.{answers_of, certified_after, is_known, sends_of, subscriptions_after}
 use Rattle.mar_model.specs.Cache.{started_syncs}
-use Rattle.mar_model.specs.Chain.{Chain, IsBlockAt, IsLawful}
+use Rattle.mar_model.specs.Chain.{Chain, Finalizes, IsBlockAt, IsLawful}
 use Rattle.mar_model.specs.Cached.{cached_block, cached_finalization}
 use Rattle.mar_model.specs.Config.{Config}
 use Rattle.mar_model.specs.Event.{Event, acked_to, blocks_from, brought_block, certs_from, cutoff_after, drained_blocks, effect_of, is_query, no_floor, storing_of, told_finalization, undrained_blocks}
 use Rattle.mar_model.specs.Faults.{event_fault, last_height}
 use Rattle.mar_model.specs.Held.{Seen}
 use Rattle.mar_model.specs.Moves.{AreNextHeld, HasRoom, IsBelowWrites, IsStarted, IsStill, handed_report, next_in, with_handed}
-use Rattle.mar_model.specs.Node.{AreBlocksOf, AreFinalizationsOf, AreHonest, CertifiedCommitment, IsGood, Node, Rest, block_missing, empty_inbox, empty_peers, window_full, write_count, write_uncovered}
+use Rattle.mar_model.specs.Node.{AreHonest, CertifiedCommitment, IsGood, Node, Rest, block_missing, empty_inbox, empty_peers, window_full, write_count, write_uncovered}
 use Rattle.mar_model.specs.Promise.{IsKnownSince, ReportsFinalized, Waiting, asked_since, knowing, made_of, node_of}
 use Rattle.mar_model.specs.Requests.{IsRepairFetch, Repaired, is_pass, may_repair, own_asks, repairs_twice}
 use Rattle.mar_model.specs.Step.{AdvancesBy, AreHandedOf, AreTipsOf, CertificatesFrom, EntersAt, HandedBlock, HandedFrom, HandsOver, IsBlockFrom, IsCertFrom, IsStored, IsStoredLate, KeepsFrom, RepairsFromHand, Report, Steps, TipsFrom, Writes, handed_blocks, is_blocking, handed_over, new_tip, outstanding_of, own_heights}
-use Rattle.mar_model.proofs.CacheBeside.{AdvancesCache-beside}
-use Rattle.mar_model.proofs.CacheOver.{MovesCache}
-use Rattle.mar_model.proofs.Growing.{Grown}
-use Rattle.mar_model.proofs.Handing.{AreHandedOf-held, HandedFrom-held, handed_blocks-is, height_after-consecutive, sure_below}
+use Rattle.mar_model.proofs.CacheOver.{AdvancesCache-beside, MovesCache}
+use Rattle.mar_model.proofs.EntryLists.{contains_none}
+use Rattle.mar_model.proofs.Growing.{Grown, Grown-same}
+use Rattle.mar_model.proofs.Handing.{AreHandedOf-held, HandedFrom-held, handed_blocks-is, height_after-consecutive, length_out, sure_below}
 use Rattle.mar_model.proofs.HonestAsks.{AreHonest-asked_after, HonestCall, own_asks-honest}
 use Rattle.mar_model.proofs.OutstandingLemmas.{ConsecutiveFrom-append, ConsecutiveFrom-handed}
+use Rattle.mar_model.proofs.PlainEvents.{KeepsFrom-same}
 use Rattle.mar_model.proofs.SyncTickets.{IsTicketed, with_sync-covered, with_sync-unwritten, with_sync-written}
 use Rattle.mar_model.proofs.StillGood.{Rest-with, IsGood-with}
 
@@ -111,12 +112,8 @@ IsGood-handed config chain m buffer waiting handed window good next below room =
     handed_sure : HandedFrom m.held.blocks.sure m.life.next_ack (next_in m) handed
     handed_sure = HandedFrom-held m.held.blocks.held m.held.blocks.sure m.held.writes.uncovered m.life.next_ack (next_in m) handed (λ h low has. sure_below m.held.blocks m.held.writes.uncovered h good.heights.stores.sure_blocks low has) below next
 
-    length_mapped : (xs : List HandedBlock) → length (map outstanding_of xs) ≡ length xs
-    length_mapped [] = refl
-    length_mapped (x ∷ xs) = ap (λ k. suc k) (length_mapped xs)
-
     counted : length (m.life.out ++ map outstanding_of handed) ≡ length m.life.out + length handed
-    counted = length-append m.life.out (map outstanding_of handed) ∙ ap (λ k. length m.life.out + k) (length_mapped handed)
+    counted = length-append m.life.out (map outstanding_of handed) ∙ ap (λ k. length m.life.out + k) (length_out handed)
 
 pub in_list : (blocks : List Block) (i : ℕ) (b : Block) → slice_get blocks i ≡ Some b → i < length blocks
 in_list [] i b at = absurd cc
@@ -146,84 +143,71 @@ Rest-still config chain m buffer waiting lawful window good (inr (inr (inr end))
 
 -- THE FIRST PART
 
--- What an event does before it hands over: from `a` to `m`, with these tips and asks.
-pub record Reaches {P E : Type 0} (config : Config) (chain : Chain) (a : Seen P E) (e : Event) (buffer : List Block) (waiting : Waiting) (tips : List Report) (m : Seen P E) : Type 0 where
-  pub no_effect : effect_of config (node_of a buffer waiting) e ≡ no_floor
+-- What an event puts into an archive: the chain's and its own, and what was there stays from a bound on.
+pub record PutsOwn {T : Type 0} (OfChain Own : At T → Type 0) (bound : ℕ) (old new : Kept (At T)) : Type 0 where
+  pub keeps : KeepsFrom bound old new
+  pub put : List (At T)
+  pub grown : Grown old put new
+  pub of_chain : AllByRecursion OfChain put
+  pub own : (x : At T) → Contains put x → Own x
+
+pub PutsOwn-same : {T : Type 0} (OfChain Own : At T → Type 0) (bound : ℕ) (old new : Kept (At T)) → IsNested old → new ≡ old → PutsOwn OfChain Own bound old new
+PutsOwn-same OfChain Own bound old new nested same = subst (PutsOwn OfChain Own bound old) (sym same)
+    (record { keeps = KeepsFrom-same bound old; put = []; grown = Grown-same old old nested refl; of_chain = tt; own = λ x has. contains_none x has })
+
+-- so all that a crash can leave of it is the chain's
+pub PutsOwn-may : {T : Type 0} (OfChain Own : At T → Type 0) (bound : ℕ) (old new : Kept (At T)) → PutsOwn OfChain Own bound old new → AllByRecursion OfChain old.may → AllByRecursion OfChain new.may
+PutsOwn-may OfChain Own bound old new puts before =
+    AllByRecursion-within OfChain new.may (old.may ++ puts.put) puts.grown.leaves.may (AllByRecursion-append OfChain old.may puts.put before puts.of_chain)
+
+-- What an event has no part in: floors, queries, faults by value, blocks for peers, answers, subscriptions and syncs of the cache.
+pub record HasNoPart (config : Config) (n : Node) (e : Event) : Type 0 where
+  pub no_effect : effect_of config n e ≡ no_floor
+  pub no_query : is_query e ≡ false
+  pub no_fault : event_fault config n e ≡ None
+  pub sends : sends_of n e ≡ []
+  pub answers : (lowest : ℕ) → answers_of config n lowest e no_floor ≡ []
+  pub subscriptions : subscriptions_after n e no_floor ≡ []
+  pub no_syncs : (n' : Node) → started_syncs n n' e ≡ []
+
+-- What an event does before it hands over: from `a` to `m`, with these tips.
+pub record Comes {P E : Type 0} (config : Config) (chain : Chain) (a : Seen P E) (e : Event) (buffer : List Block) (waiting : Waiting) (tips : List Report) (m : Seen P E) : Type 0 where
+  pub no_part : HasNoPart config (node_of a buffer waiting) e
   pub kept : m.life.out ≡ undrained_blocks (node_of a buffer waiting) e
   pub next_ack : m.life.next_ack ≡ a.life.next_ack
   pub next_sync : m.held.writes.next_sync ≡ a.held.writes.next_sync
   pub sizes : m.life.sizes ≡ a.life.sizes
   pub processed : m.held.processed ≡ acked_to a.held.processed (drained_blocks (node_of a buffer waiting) e)
   pub cutoff : m.held.cutoff ≡ cutoff_after config (node_of a buffer waiting) e no_floor
-  pub blocks : KeepsFrom (blocks_from (node_of a buffer waiting) e no_floor) a.held.blocks m.held.blocks
-  pub certs : KeepsFrom (certs_from (node_of a buffer waiting) e no_floor) a.held.certs m.held.certs
-  pub put_blocks : List (At Block)
-  pub put_certs : List (At Finalization)
-  pub blocks_grown : Grown a.held.blocks put_blocks m.held.blocks
-  pub certs_grown : Grown a.held.certs put_certs m.held.certs
-  pub of_blocks : AreBlocksOf chain put_blocks
-  pub of_certs : AreFinalizationsOf chain put_certs
-  pub own_blocks : (x : At Block) → Contains put_blocks x → IsBlockFrom (node_of a buffer waiting) e x
-  pub own_certs : (x : At Finalization) → Contains put_certs x → IsCertFrom (node_of a buffer waiting) e x
+  pub blocks : PutsOwn (λ x. IsBlockAt chain x.height x.value) (IsBlockFrom (node_of a buffer waiting) e) (blocks_from (node_of a buffer waiting) e no_floor) a.held.blocks m.held.blocks
+  pub certs : PutsOwn (λ x. Finalizes chain x.height x.value.round x.value.payload) (IsCertFrom (node_of a buffer waiting) e) (certs_from (node_of a buffer waiting) e no_floor) a.held.certs m.held.certs
   pub certificates : CertificatesFrom (node_of a buffer waiting) e (node_of m buffer waiting)
   pub writes : Writes (node_of a buffer waiting) e no_floor (node_of m buffer waiting)
-  pub no_repair : writes.repaired ≡ []
-  pub unblocked : writes.blocking ≡ 0
-  pub enters : EntersAt (own_heights (node_of a buffer waiting) e no_floor) (node_of a buffer waiting) (node_of m buffer waiting)
   pub are_tips : AreTips tips
   pub tips_rise : TipsFrom a.life.tip tips m.life.tip
   pub tips_chain : AreTipsOf chain tips
   pub cache : MovesCache config chain a m e buffer waiting
   pub stored : IfSome (storing_of (node_of a buffer waiting) e) (IsStored (node_of m buffer waiting))
   pub stored_late : IfSome (storing_of (node_of a buffer waiting) e) (IsStoredLate (node_of a buffer waiting) no_floor (node_of m buffer waiting))
-  pub no_query : is_query e ≡ false
-  pub no_fault : event_fault config (node_of a buffer waiting) e ≡ None
-  pub sends : sends_of (node_of a buffer waiting) e ≡ []
-  pub answers : (lowest : ℕ) → answers_of config (node_of a buffer waiting) lowest e no_floor ≡ []
-  pub subscriptions : subscriptions_after (node_of a buffer waiting) e no_floor ≡ []
-  pub no_syncs : (n' : Node) → started_syncs (node_of a buffer waiting) n' e ≡ []
+
+-- An event that doesn't repair, or before it does: all that it writes is its own.
+pub record Reaches {P E : Type 0} (config : Config) (chain : Chain) (a : Seen P E) (e : Event) (buffer : List Block) (waiting : Waiting) (tips : List Report) (m : Seen P E) : Type 0 where
+  pub comes : Comes config chain a e buffer waiting tips m
+  pub no_repair : comes.writes.repaired ≡ []
+  pub unblocked : comes.writes.blocking ≡ 0
+  pub enters : EntersAt (own_heights (node_of a buffer waiting) e no_floor) (node_of a buffer waiting) (node_of m buffer waiting)
 
 -- The same of an event that may repair, with what it asked for beyond its own asks.
 pub record ReachesBy {P E : Type 0} (config : Config) (chain : Chain) (a : Seen P E) (e : Event) (buffer : List Block) (waiting : Waiting) (tips : List Report) (more : List Call) (m : Seen P E) : Type 0 where
-  pub no_effect : effect_of config (node_of a buffer waiting) e ≡ no_floor
-  pub kept : m.life.out ≡ undrained_blocks (node_of a buffer waiting) e
-  pub next_ack : m.life.next_ack ≡ a.life.next_ack
-  pub next_sync : m.held.writes.next_sync ≡ a.held.writes.next_sync
-  pub sizes : m.life.sizes ≡ a.life.sizes
-  pub processed : m.held.processed ≡ acked_to a.held.processed (drained_blocks (node_of a buffer waiting) e)
-  pub cutoff : m.held.cutoff ≡ cutoff_after config (node_of a buffer waiting) e no_floor
-  pub blocks : KeepsFrom (blocks_from (node_of a buffer waiting) e no_floor) a.held.blocks m.held.blocks
-  pub certs : KeepsFrom (certs_from (node_of a buffer waiting) e no_floor) a.held.certs m.held.certs
-  pub put_blocks : List (At Block)
-  pub put_certs : List (At Finalization)
-  pub blocks_grown : Grown a.held.blocks put_blocks m.held.blocks
-  pub certs_grown : Grown a.held.certs put_certs m.held.certs
-  pub of_blocks : AreBlocksOf chain put_blocks
-  pub of_certs : AreFinalizationsOf chain put_certs
-  pub own_blocks : (x : At Block) → Contains put_blocks x → IsBlockFrom (node_of a buffer waiting) e x
-  pub own_certs : (x : At Finalization) → Contains put_certs x → IsCertFrom (node_of a buffer waiting) e x
-  pub certificates : CertificatesFrom (node_of a buffer waiting) e (node_of m buffer waiting)
-  pub writes : Writes (node_of a buffer waiting) e no_floor (node_of m buffer waiting)
-  pub repairs : RepairsFromHand config (node_of a buffer waiting) e no_floor writes.repaired (node_of m buffer waiting)
-  pub unrepaired : (n' : Node) → IsFalse (is_pass (node_of a buffer waiting) e no_floor n') → writes.repaired ≡ []
-  pub unblocked : (n' : Node) → IsFalse (is_blocking (node_of a buffer waiting) e no_floor n') → writes.blocking ≡ 0
-  pub enters : EntersAt (own_heights (node_of a buffer waiting) e no_floor ++ writes.repaired) (node_of a buffer waiting) (node_of m buffer waiting)
+  pub comes : Comes config chain a e buffer waiting tips m
+  pub repairs : RepairsFromHand config (node_of a buffer waiting) e no_floor comes.writes.repaired (node_of m buffer waiting)
+  pub unrepaired : (n' : Node) → IsFalse (is_pass (node_of a buffer waiting) e no_floor n') → comes.writes.repaired ≡ []
+  pub unblocked : (n' : Node) → IsFalse (is_blocking (node_of a buffer waiting) e no_floor n') → comes.writes.blocking ≡ 0
+  pub enters : EntersAt (own_heights (node_of a buffer waiting) e no_floor ++ comes.writes.repaired) (node_of a buffer waiting) (node_of m buffer waiting)
   pub once : repairs_twice e no_floor ≡ false
   pub idle : (n' : Node) → IsFalse (is_pass (node_of a buffer waiting) e no_floor n') → more ≡ []
   pub repaired : (n' : Node) → IsTrue (is_pass (node_of a buffer waiting) e no_floor n') → Repaired config (node_of m buffer waiting) more
   pub fetches : (more ≡ []) ⊎ (IsTrue (may_repair e) × AllByRecursion (IsRepairFetch chain) more)
-  pub are_tips : AreTips tips
-  pub tips_rise : TipsFrom a.life.tip tips m.life.tip
-  pub tips_chain : AreTipsOf chain tips
-  pub cache : MovesCache config chain a m e buffer waiting
-  pub stored : IfSome (storing_of (node_of a buffer waiting) e) (IsStored (node_of m buffer waiting))
-  pub stored_late : IfSome (storing_of (node_of a buffer waiting) e) (IsStoredLate (node_of a buffer waiting) no_floor (node_of m buffer waiting))
-  pub no_query : is_query e ≡ false
-  pub no_fault : event_fault config (node_of a buffer waiting) e ≡ None
-  pub sends : sends_of (node_of a buffer waiting) e ≡ []
-  pub answers : (lowest : ℕ) → answers_of config (node_of a buffer waiting) lowest e no_floor ≡ []
-  pub subscriptions : subscriptions_after (node_of a buffer waiting) e no_floor ≡ []
-  pub no_syncs : (n' : Node) → started_syncs (node_of a buffer waiting) n' e ≡ []
 
 -- an event without a pass asks for no more
 none_repaired : (repaired : List ℕ) (h : ℕ) → repaired ≡ [] → IsTrue (list_any (λ k. k == h) repaired) → ⊥
@@ -232,49 +216,25 @@ none_repaired repaired h none any = let no : false ≡ true = subst (λ xs. IsTr
 pub unpassed : {P E : Type 0} (config : Config) (chain : Chain) (a : Seen P E) (e : Event) (buffer : List Block) (waiting : Waiting) (tips : List Report) (m : Seen P E) → ((n' : Node) → is_pass (node_of a buffer waiting) e no_floor n' ≡ false) → repairs_twice e no_floor ≡ false
     → Reaches config chain a e buffer waiting tips m → ReachesBy config chain a e buffer waiting tips [] m
 unpassed config chain a e buffer waiting tips m no_pass once reach = record {
-  no_effect = reach.no_effect;
-  kept = reach.kept;
-  next_ack = reach.next_ack;
-  next_sync = reach.next_sync;
-  sizes = reach.sizes;
-  processed = reach.processed;
-  cutoff = reach.cutoff;
-  blocks = reach.blocks;
-  certs = reach.certs;
-  put_blocks = reach.put_blocks;
-  put_certs = reach.put_certs;
-  blocks_grown = reach.blocks_grown;
-  certs_grown = reach.certs_grown;
-  of_blocks = reach.of_blocks;
-  of_certs = reach.of_certs;
-  own_blocks = reach.own_blocks;
-  own_certs = reach.own_certs;
-  certificates = reach.certificates;
-  writes = reach.writes;
-  repairs = record { at_hand = λ h b any is. absurd (none_repaired reach.writes.repaired h reach.no_repair any); with_finalization = λ h b any is some. absurd (none_repaired reach.writes.repaired h reach.no_repair any) };
+  comes = reach.comes;
+  repairs = record {
+    at_hand = λ h b any is. absurd (none_repaired reach.comes.writes.repaired h reach.no_repair any);
+    with_finalization = λ h b any is some. absurd (none_repaired reach.comes.writes.repaired h reach.no_repair any);
+  };
   unrepaired = λ n' is. reach.no_repair;
   unblocked = λ n' is. reach.unblocked;
   enters = record {
-    blocks = λ h has. ⊎_elim (λ there. inl there) (λ own. inr (Contains-append_left (own_heights (node_of a buffer waiting) e no_floor) reach.writes.repaired h own)) (reach.enters.blocks h has);
-    certs = λ h has. ⊎_elim (λ there. inl there) (λ own. inr (Contains-append_left (own_heights (node_of a buffer waiting) e no_floor) reach.writes.repaired h own)) (reach.enters.certs h has);
+    blocks = λ h has. ⊎_elim (λ there. inl there) (λ own. inr (among h own)) (reach.enters.blocks h has);
+    certs = λ h has. ⊎_elim (λ there. inl there) (λ own. inr (among h own)) (reach.enters.certs h has);
   };
   once = once;
   idle = λ n' is. refl;
   repaired = λ n' pass. absurd (let no : false ≡ true = sym (no_pass n') ∙ pass in cc);
   fetches = inl refl;
-  are_tips = reach.are_tips;
-  tips_rise = reach.tips_rise;
-  tips_chain = reach.tips_chain;
-  cache = reach.cache;
-  stored = reach.stored;
-  stored_late = reach.stored_late;
-  no_query = reach.no_query;
-  no_fault = reach.no_fault;
-  sends = reach.sends;
-  answers = reach.answers;
-  subscriptions = reach.subscriptions;
-  no_syncs = reach.no_syncs;
 }
+  where
+    among : (h : ℕ) → Contains (own_heights (node_of a buffer waiting) e no_floor) h → Contains (own_heights (node_of a buffer waiting) e no_floor ++ reach.comes.writes.repaired) h
+    among h own = Contains-append_left (own_heights (node_of a buffer waiting) e no_floor) reach.comes.writes.repaired h own
 
 -- BOTH PARTS
 
@@ -345,18 +305,18 @@ module _ {P E : Type 0} (config : Config) (chain : Chain) (a m : Seen P E) (e : 
     n' = node_of (with_handed m handed) buffer after
 
     blocks_are : handed_blocks reports ≡ handed
-    blocks_are = handed_after_tips tips handed reach.are_tips
+    blocks_are = handed_after_tips tips handed reach.comes.are_tips
 
     in_order : HandedFrom m.held.blocks.sure a.life.next_ack (first_unprocessed m.held.processed + length (undrained_blocks n e)) handed
     in_order =
-        subst (λ o. HandedFrom m.held.blocks.sure a.life.next_ack (first_unprocessed m.held.processed + length o) handed) reach.kept
-        (subst (λ t. HandedFrom m.held.blocks.sure t (first_unprocessed m.held.processed + length m.life.out) handed) reach.next_ack hands_sure.in_order)
+        subst (λ o. HandedFrom m.held.blocks.sure a.life.next_ack (first_unprocessed m.held.processed + length o) handed) reach.comes.kept
+        (subst (λ t. HandedFrom m.held.blocks.sure t (first_unprocessed m.held.processed + length m.life.out) handed) reach.comes.next_ack hands_sure.in_order)
 
     hands : HandsOver n (undrained_blocks n e) reports n'
     hands = record {
       in_order = subst (λ xs. HandedFrom m.held.blocks.sure a.life.next_ack (first_unprocessed m.held.processed + length (undrained_blocks n e)) xs) (sym blocks_are) in_order;
-      counted = ap (λ k. k + length handed) reach.next_ack ∙ ap (λ xs. a.life.next_ack + length xs) (sym blocks_are);
-      out = ap (λ o. o ++ map outstanding_of handed) reach.kept ∙ ap (λ xs. undrained_blocks n e ++ map outstanding_of xs) (sym blocks_are);
+      counted = ap (λ k. k + length handed) reach.comes.next_ack ∙ ap (λ xs. a.life.next_ack + length xs) (sym blocks_are);
+      out = ap (λ o. o ++ map outstanding_of handed) reach.comes.kept ∙ ap (λ xs. undrained_blocks n e ++ map outstanding_of xs) (sym blocks_are);
       below_barrier = subst (AllByRecursion (λ x. AllByRecursion (λ h. x.block.height < h) m.held.writes.uncovered)) (sym blocks_are) hands_sure.below_barrier;
     }
 
@@ -368,44 +328,44 @@ module _ {P E : Type 0} (config : Config) (chain : Chain) (a m : Seen P E) (e : 
     again law = record { heights = law.heights; at_most = law.at_most; only = law.only; parent = law.parent; newest_block = law.newest_block }
 
     untouched : n' ≡ record n' { buffer = n.buffer; buffer_closed = n.buffer_closed; unanswered = n.unanswered; peers = n.peers; inbox = n.inbox; next_answer = n.next_answer }
-    untouched = ap (λ (k : ℕ). record n' { peers = empty_peers k; inbox = empty_inbox k }) (ap (λ s. s.capacity) reach.sizes)
+    untouched = ap (λ (k : ℕ). record n' { peers = empty_peers k; inbox = empty_inbox k }) (ap (λ s. s.capacity) reach.comes.sizes)
 
     advances_unfloored : AdvancesBy config chain n e no_floor (made_of reports asks) n'
     advances_unfloored = record {
       hands = hands;
       hands_chain = hands_chain;
-      processed = reach.processed;
-      cutoff = reach.cutoff;
-      blocks = reach.blocks;
-      certs = reach.certs;
-      may_blocks = λ x has. put_from (IsBlockFrom n e) a.held.blocks.may reach.put_blocks reach.own_blocks x (reach.blocks_grown.leaves.may x has);
-      may_certs = λ x has. put_from (IsCertFrom n e) a.held.certs.may reach.put_certs reach.own_certs x (reach.certs_grown.leaves.may x has);
-      certificates = record { entered = reach.certificates.entered; own = reach.certificates.own };
+      processed = reach.comes.processed;
+      cutoff = reach.comes.cutoff;
+      blocks = reach.comes.blocks.keeps;
+      certs = reach.comes.certs.keeps;
+      may_blocks = λ x has. put_from (IsBlockFrom n e) a.held.blocks.may reach.comes.blocks.put reach.comes.blocks.own x (reach.comes.blocks.grown.leaves.may x has);
+      may_certs = λ x has. put_from (IsCertFrom n e) a.held.certs.may reach.comes.certs.put reach.comes.certs.own x (reach.comes.certs.grown.leaves.may x has);
+      certificates = record { entered = reach.comes.certificates.entered; own = reach.comes.certificates.own };
       writes = record {
-        repaired = reach.writes.repaired;
-        by_repair = reach.writes.by_repair;
-        each_once = reach.writes.each_once;
-        blocking = reach.writes.blocking;
-        within = reach.writes.within;
-        at_least = reach.writes.at_least;
-        covered = reach.writes.covered;
-        uncovered = reach.writes.uncovered;
-        syncs = reach.writes.syncs;
+        repaired = reach.comes.writes.repaired;
+        by_repair = reach.comes.writes.by_repair;
+        each_once = reach.comes.writes.each_once;
+        blocking = reach.comes.writes.blocking;
+        within = reach.comes.writes.within;
+        at_least = reach.comes.writes.at_least;
+        covered = reach.comes.writes.covered;
+        uncovered = reach.comes.writes.uncovered;
+        syncs = reach.comes.writes.syncs;
       };
       repairs = record { at_hand = reach.repairs.at_hand; with_finalization = reach.repairs.with_finalization };
       unrepaired = reach.unrepaired n';
       unblocked = reach.unblocked n';
       enters = record { blocks = reach.enters.blocks; certs = reach.enters.certs };
-      tips = tips_before_handed a.life.tip m.life.tip tips handed reach.are_tips reach.tips_rise;
-      tips_chain = tips_of_both chain tips handed reach.are_tips reach.tips_chain;
+      tips = tips_before_handed a.life.tip m.life.tip tips handed reach.comes.are_tips reach.comes.tips_rise;
+      tips_chain = tips_of_both chain tips handed reach.comes.are_tips reach.comes.tips_chain;
       awaited = refl;
-      cache = AdvancesCache-beside config n e no_floor m (with_handed m handed) buffer buffer waiting after refl reach.cache.advances;
-      may_cached = λ x has. ⊎_elim (λ before. inl before) (λ new. inr (reach.cache.own.own x new)) (Contains-append_cases a.held.cache.kept.may reach.cache.put x (reach.cache.leaves.may x has));
-      stored = IfSome-more (IsStored (node_of m buffer waiting)) (IsStored n') (λ s is. record { block = is.block; certificate = is.certificate }) (storing_of n e) reach.stored;
-      stored_late = IfSome-more (IsStoredLate n no_floor (node_of m buffer waiting)) (IsStoredLate n no_floor n') (λ s is. is) (storing_of n e) reach.stored_late;
+      cache = AdvancesCache-beside config n e no_floor m (with_handed m handed) buffer buffer waiting after refl reach.comes.cache.advances;
+      may_cached = λ x has. ⊎_elim (λ before. inl before) (λ new. inr (reach.comes.cache.own.own x new)) (Contains-append_cases a.held.cache.kept.may reach.comes.cache.put x (reach.comes.cache.leaves.may x has));
+      stored = IfSome-more (IsStored (node_of m buffer waiting)) (IsStored n') (λ s is. record { block = is.block; certificate = is.certificate }) (storing_of n e) reach.comes.stored;
+      stored_late = IfSome-more (IsStoredLate n no_floor (node_of m buffer waiting)) (IsStoredLate n no_floor n') (λ s is. is) (storing_of n e) reach.comes.stored_late;
       floor_stored = tt;
-      query = λ is. absurd (let none : false ≡ true = sym reach.no_query ∙ is in cc);
-      no_fault = reach.no_fault;
+      query = λ is. absurd (let none : false ≡ true = sym reach.comes.no_part.no_query ∙ is in cc);
+      no_fault = reach.comes.no_part.no_fault;
       beside = record {
         more = more;
         asks = refl;
@@ -418,11 +378,11 @@ module _ {P E : Type 0} (config : Config) (chain : Chain) (a m : Seen P E) (e : 
           repaired_first = λ twice none. absurd (let no : false ≡ true = sym reach.once ∙ twice in cc);
           repaired = λ pass none. again (reach.repaired n' pass);
         };
-        sends = sym reach.sends;
-        answers = sym (reach.answers m.held.lowest);
-        subscriptions = sym reach.subscriptions;
-        certified = λ h c. subst (λ fx. is_known certified h c ≡ is_known (certified_after n e fx m.life.tip) h c) reach.no_effect (known.known h c);
-        next_sync = reach.next_sync ∙ sym (ap (λ xs. a.held.writes.next_sync + length xs) (reach.no_syncs n') ∙ plus_none a.held.writes.next_sync);
+        sends = sym reach.comes.no_part.sends;
+        answers = sym (reach.comes.no_part.answers m.held.lowest);
+        subscriptions = sym reach.comes.no_part.subscriptions;
+        certified = λ h c. subst (λ fx. is_known certified h c ≡ is_known (certified_after n e fx m.life.tip) h c) reach.comes.no_part.no_effect (known.known h c);
+        next_sync = reach.comes.next_sync ∙ sym (ap (λ xs. a.held.writes.next_sync + length xs) (reach.comes.no_part.no_syncs n') ∙ plus_none a.held.writes.next_sync);
         untouched = untouched;
       };
     }
@@ -445,7 +405,7 @@ module _ {P E : Type 0} (config : Config) (chain : Chain) (a m : Seen P E) (e : 
     pub Steps-reached : IsTicketed a.held.writes m.held.writes → IsGood config chain (node_of (with_handed m handed) buffer waiting) → Rest config.window (node_of (with_handed m handed) buffer waiting) → Steps config chain n (e ∷ []) (made_of reports asks) n'
     Steps-reached ticketed good rests = record {
       unticketed = n';
-      advances = subst (λ fx. AdvancesBy config chain n e fx (made_of reports asks) n') (sym reach.no_effect) advances_unfloored;
+      advances = subst (λ fx. AdvancesBy config chain n e fx (made_of reports asks) n') (sym reach.comes.no_part.no_effect) advances_unfloored;
       ticket = sym (⊎_elim (λ unwritten. with_sync-unwritten (write_count n) n' unwritten) (λ covered. with_sync-covered (write_count n) n' covered) ticketed);
       rests = Rest-beside config.window (with_handed m handed) buffer buffer waiting after rests;
       good = IsGood-beside config chain (with_handed m handed) buffer buffer waiting after honest_after good;
@@ -455,7 +415,7 @@ module _ {P E : Type 0} (config : Config) (chain : Chain) (a m : Seen P E) (e : 
     pub Steps-started : (new : Seen P E) → IsStarted (with_handed m handed) new → total_writes a.held.writes < total_writes m.held.writes → 0 < length m.held.writes.uncovered → IsGood config chain (node_of new buffer waiting) → Rest config.window (node_of new buffer waiting) → Steps config chain n (e ∷ []) (made_of reports asks) (node_of new buffer after)
     Steps-started new started written some good rests = record {
       unticketed = n';
-      advances = subst (λ fx. AdvancesBy config chain n e fx (made_of reports asks) n') (sym reach.no_effect) advances_unfloored;
+      advances = subst (λ fx. AdvancesBy config chain n e fx (made_of reports asks) n') (sym reach.comes.no_part.no_effect) advances_unfloored;
       ticket = ap (λ s. node_of s buffer after) started ∙ sym (with_sync-written (write_count n) n' written some);
       rests = Rest-beside config.window new buffer buffer waiting after rests;
       good = IsGood-beside config chain new buffer buffer waiting after honest_after good;

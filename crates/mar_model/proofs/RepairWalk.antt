@@ -1,5 +1,7 @@
 -- What a walk fills in: each block has the commitment that was wanted, stands below the upper end, and is held from then on.
-use Rattle.std.proofs.Common.{◌≡◌, ◌⊎◌, inl, ⊎_elim, ◌∷◌, [], List, ◌++◌, option_and_then, option_map, IsTrue, Option, None, Some, Bool, true, false, if◌then◌else◌, ◌==◌, ◌||◌, bytes_eq, find, ℕ, ◌-◌, ◌<◌, ◌≤◌, arith, refl, sym, ◌∙◌, ap, subst}
+use Rattle.std.proofs.Common.{◌≡◌, ◌⊎◌, inl, ⊎_elim, ◌∷◌, [], List, ◌++◌, option_and_then, option_map, IsTrue, Option, None, Some, Bool, true, false, if◌then◌else◌, ◌==◌, bytes_eq, find, ℕ, ◌-◌, ◌<◌, ◌≤◌, arith, refl, sym, ◌∙◌, ap, subst}
+use Rattle.std.proofs.lemmas.Bool.{eqb-true, or_left}
+use Rattle.std.proofs.lemmas.Option.{same_Some}
 use Rattle.std.specs.List.{AllByRecursion}
 use Rattle.std.specs.Option.{option_or}
 use Rattle.mar_cert.specs.Block.{Block}
@@ -21,15 +23,12 @@ use Rattle.mar_model.proofs.Looking.{passes_found}
 
 -- WHAT IS FOUND
 
-inside : (x b : Block) → ◌≡◌ {A = Option Block} (Some x) (Some b) → x ≡ b
-inside x b is = cc
-
 of_commitment-commitment : (c : List ℕ) (o : Option Block) (b : Block) → of_commitment c o ≡ Some b → b.commitment ≡ c
 of_commitment-commitment c None b is = absurd cc
 of_commitment-commitment c (Some x) b is = by (bytes_eq x.commitment c) refl is
   where
     by : (same : Bool) → bytes_eq x.commitment c ≡ same → (if same then Some x else None) ≡ Some b → b.commitment ≡ c
-    by true same one = ap (λ (y : Block). y.commitment) (sym (inside x b one)) ∙ bytes_same x.commitment c same
+    by true same one = ap (λ (y : Block). y.commitment) (sym (same_Some x b one)) ∙ bytes_same x.commitment c same
     by false other none = absurd cc
 
 cached-commitment : (c : List ℕ) (xs : List Cached) (b : Block) → cached_by_commitment c xs ≡ Some b → b.commitment ≡ c
@@ -37,7 +36,7 @@ cached-commitment c xs b is = by (soonest (λ x. has_commitment c (cached_block 
   where
     of_block : (o : Option Block) → has_commitment c o ≡ true → o ≡ Some b → b.commitment ≡ c
     of_block None named one = absurd cc
-    of_block (Some y) named one = ap (λ (z : Block). z.commitment) (sym (inside y b one)) ∙ bytes_same y.commitment c named
+    of_block (Some y) named one = ap (λ (z : Block). z.commitment) (sym (same_Some y b one)) ∙ bytes_same y.commitment c named
 
     by : (o : Option Cached) → soonest (λ x. has_commitment c (cached_block x)) xs ≡ o → option_and_then cached_block o ≡ Some b → b.commitment ≡ c
     by None none one = absurd cc
@@ -49,7 +48,7 @@ look_up-commitment s held c b is = by (find (λ x. bytes_eq x.commitment c) s.bu
   where
     by : (o : Option Block) → find (λ x. bytes_eq x.commitment c) s.buffer ≡ o → (k : Option Block) → cached_by_commitment c s.cached ≡ k
         → option_or o (option_or k (of_commitment c (block_of held (s.inner c)))) ≡ Some b → b.commitment ≡ c
-    by (Some x) first k kept one = ap (λ (y : Block). y.commitment) (sym (inside x b one)) ∙ bytes_same x.commitment c (find-passes (λ y. bytes_eq y.commitment c) s.buffer x first)
+    by (Some x) first k kept one = ap (λ (y : Block). y.commitment) (sym (same_Some x b one)) ∙ bytes_same x.commitment c (find-passes (λ y. bytes_eq y.commitment c) s.buffer x first)
     by None first (Some x) kept one = cached-commitment c s.cached b (kept ∙ one)
     by None first None kept one = of_commitment-commitment c (block_of held (s.inner c)) b one
 
@@ -70,9 +69,6 @@ fill_of-is s held b is = by_start (next_start (ranges (heights held)) s.from) re
     found_at start u next at None found one = absurd cc
     found_at start u next at (Some x) found one = by (x.height == u.height - 1) refl one
       where
-        same_of : (i j : ℕ) → (i == j) ≡ true → i ≡ j
-        same_of i j e = grind arith
-
         by : (c : Bool) → (x.height == u.height - 1) ≡ c → (if c then Some x else None) ≡ Some b → Filled s held b
         by true same some = record {
           start = start;
@@ -80,7 +76,7 @@ fill_of-is s held b is = by_start (next_start (ranges (heights held)) s.from) re
           next = next;
           at = at;
           found = found ∙ some;
-          height = ap (λ (y : Block). y.height) (sym (inside x b some)) ∙ same_of x.height (u.height - 1) same;
+          height = ap (λ (y : Block). y.height) (sym (same_Some x b some)) ∙ eqb-true x.height (u.height - 1) same;
         }
         by false other none = absurd cc
 
@@ -96,16 +92,12 @@ fill_of-is s held b is = by_start (next_start (ranges (heights held)) s.from) re
 
 -- WHAT IS HELD THEN
 
-or_keeps : (a b : Bool) → a ≡ true → (a || b) ≡ true
-or_keeps true b is = refl
-or_keeps false b is = absurd (let no : false ≡ true = is in cc)
-
 pub with_fill-keeps : (held : List (At Block)) (b : Block) (h : ℕ) → IsTrue (has_height held h) → IsTrue (has_height (with_fill held b) h)
 with_fill-keeps held b h has = by (is_held held b)
   where
     by : (c : Bool) → IsTrue (has_height (if c then held else held ++ at_own_height b ∷ []) h)
     by true = has
-    by false = has_height-append held (at_own_height b ∷ []) h ∙ or_keeps (has_height held h) (has_height (at_own_height b ∷ []) h) has
+    by false = has_height-append held (at_own_height b ∷ []) h ∙ or_left (has_height held h) (has_height (at_own_height b ∷ []) h) has
 
 pub with_fills-keeps : (held : List (At Block)) (fills : List Block) (h : ℕ) → IsTrue (has_height held h) → IsTrue (has_height (with_fills held fills) h)
 with_fills-keeps held [] h has = has

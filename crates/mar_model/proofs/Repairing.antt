@@ -1,10 +1,12 @@
 -- What a pass of repair asks for is what the law says of what is held after it.
 use Rattle.std.proofs.Common.{◌≡◌, ◌⊎◌, inl, inr, ⊎_elim, ◌∷◌, [], List, ◌++◌, map, option_map, is_some, Contains, IsTrue, Option, None, Some, Bool, true, false, cond, if◌then◌else◌, ◌&&◌, ◌==◌, nat_lt, count_by, length, take, ℕ, zero, suc, ◌+◌, ◌<◌, ◌≤◌, arith, refl, sym, ◌∙◌, ap, subst}
 use Rattle.std.specs.List.{AllByRecursion}
+use Rattle.std.proofs.lemmas.Bool.{and_parts}
 use Rattle.std.proofs.lemmas.Bool.Decides.{nat_tests}
 use Rattle.std.proofs.lemmas.List.{length-map}
 use Rattle.std.proofs.lemmas.List.Elements.{Contains-append_left, Contains-append_right}
 use Rattle.std.proofs.lemmas.List.Sums.{count_by-le-length, sum_by-append}
+use Rattle.std.proofs.lemmas.Option.{same_Some}
 use Rattle.mar_cert.specs.Block.{Block}
 use Rattle.mar_cert.specs.Finalization.{Finalization}
 use Rattle.mar_key.specs.Keys.{Call, block_key, fetch, finalized_by_height}
@@ -54,13 +56,10 @@ swapped xs ys c has = ⊎_elim (λ there. Contains-append_right xs ys c there) (
 pub newest-is : (certs : List (At Finalization)) (x : At Finalization) → newest certs ≡ Some x → (value_at certs x.height ≡ Some x.value) × ((h : ℕ) → IsTrue (has_height certs h) → h ≤ x.height)
 newest-is certs x is = by (last_index certs) refl is
   where
-    inside : (y : At Finalization) → ◌≡◌ {A = Option (At Finalization)} (Some y) (Some x) → y ≡ x
-    inside y e = cc
-
     at : (k : ℕ) → last_index certs ≡ Some k → (o : Option Finalization) → value_at certs k ≡ o → option_map (λ v. record { height = k; value = v }) o ≡ Some x
         → (value_at certs x.height ≡ Some x.value) × ((h : ℕ) → IsTrue (has_height certs h) → h ≤ x.height)
     at k last None there one = absurd cc
-    at k last (Some f) there one = subst (λ (y : At Finalization). (value_at certs y.height ≡ Some y.value) × ((h : ℕ) → IsTrue (has_height certs h) → h ≤ y.height)) (inside (record { height = k; value = f }) one)
+    at k last (Some f) there one = subst (λ (y : At Finalization). (value_at certs y.height ≡ Some y.value) × ((h : ℕ) → IsTrue (has_height certs h) → h ≤ y.height)) (same_Some (record { height = k; value = f }) x one)
         (there, λ h has. let (v, held_at) = value-from_has_height certs h has in AllByRecursion-contains (λ (y : At Finalization). y.height ≤ k) certs _ (below_last certs k last) (Contains-from_value certs h v held_at))
 
     by : (o : Option ℕ) → last_index certs ≡ o → entry_at certs o ≡ Some x → (value_at certs x.height ≡ Some x.value) × ((h : ℕ) → IsTrue (has_height certs h) → h ≤ x.height)
@@ -121,21 +120,14 @@ module _ (inner : List ℕ → List ℕ) (buffer : List Block) (cached : List Ca
     pub unprocessed : height_of processed < x.height
     pub above : (k : ℕ) → IsTrue (has_height held k) → k < x.height
 
-  both_true : (a b : Bool) → (a && b) ≡ true → (a ≡ true) × (b ≡ true)
-  both_true true b is = (refl, is)
-  both_true false b is = absurd (let no : false ≡ true = is in cc)
-
   lt_of : (a b : ℕ) → nat_lt a b ≡ true → a < b
   lt_of a b is = grind (arith, nat_tests)
 
   pub alone-is : (x : At Finalization) → alone ≡ Some x → IsAlone x
   alone-is x is = by (newest certs) refl is
     where
-      inside : (y : At Finalization) → ◌≡◌ {A = Option (At Finalization)} (Some y) (Some x) → y ≡ x
-      inside y e = cc
-
       tested : (y : At Finalization) → newest certs ≡ Some y → (c : Bool) → (nat_lt (height_of processed) y.height && is_above_last (last_index held) y.height) ≡ c → (if c then Some y else None) ≡ Some x → IsAlone x
-      tested y there true test one = subst IsAlone (inside y one) (let (low, high) = both_true (nat_lt (height_of processed) y.height) _ test in record {
+      tested y there true test one = subst IsAlone (same_Some y x one) (let (low, high) = and_parts (nat_lt (height_of processed) y.height) _ test in record {
         is_newest = there;
         unprocessed = lt_of (height_of processed) y.height low;
         above = above-last held y.height high;

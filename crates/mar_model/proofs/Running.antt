@@ -1,14 +1,12 @@
 -- The law of composition, and how a call's clauses give its task.
-use Rattle.std.proofs.Common.{◌≡◌, inl, inr, ◌∷◌, [], List, Result, Ok, Err, IfErr, IfOk, OnOk, Option, Bool, true, false, cond, nat_lt, Some, ℕ, ◌<◌, ◌≤◌, arith, refl, sym, ◌∙◌, ap, subst}
+use Rattle.std.proofs.Common.{◌≡◌, inl, inr, ◌∷◌, [], List, Result, Ok, Err, IfErr, IfOk, OnOk, Option, Bool, true, false, Some, ℕ, arith, refl, sym, ◌∙◌, ap, subst}
 use Rattle.mar_model.specs.Faults.{Fault, want_of_memory}
 use Rattle.mar_model.specs.Held.{ArePassed, AreWritten, Ending, LosesSince, GoesOn, Held, IsArchiveFault, IsUsual, MakesSure, ended_on, nothing_written, written_both, written_cert, written_entry, written_pair}
 use Rattle.mar_model.specs.Moves.{CachesFinalization, HearsUpTo, PrunesCacheBy, StoresWhere, at_height, lacks_finalization, pruned_by, with_cache_of}
 use Rattle.mar_model.specs.Promise.{Heard, heard_with}
 use Rattle.mar_model.specs.Answers.{Sent, TicketAnswer}
-use Rattle.std.proofs.lemmas.Bool.Decides.{nat_tests}
-use Rattle.mar_model.specs.Step.{Report, new_tip}
+use Rattle.mar_model.specs.Step.{Report}
 use Rattle.mar_key.specs.Keys.{Call}
-use Rattle.mar_key.specs.Hears.{Hears}
 use Rattle.mar_key.specs.Cutoff.{at_round, greatest_of}
 use Rattle.mar_types.specs.Round.{Round}
 use Rattle.mar_cert.specs.Block.{Block}
@@ -19,9 +17,9 @@ use Rattle.mar_model.specs.Lives.{later_round}
 use Rattle.mar_model.specs.Metadata.{pair_of}
 use Rattle.mar_model.specs.Requests.{raise_asks}
 use Rattle.mar_model.specs.Stored.{at_own_height, is_certified, is_held}
-use Rattle.mar_model.proofs.Handing.{Hears-nothing, Delivers as Dispatched}
+use Rattle.mar_model.proofs.Handing.{Delivers as Dispatched}
 use Rattle.mar_model.specs.Writing.{with_finished, with_write}
-use Rattle.mar_model.specs.Acts.{AreLawful, IsFaultIn, IsStored, Joins, LosesOver, StoreAct, caches, ask, finish_sync, note, progresses, put_finalization, says, store, store_late, stores, tell, written_stored}
+use Rattle.mar_model.specs.Acts.{AreLawful, IsFaultIn, IsStored, Joins, LosesOver, StoreAct, caches, ask, finish_sync, note, progresses, put_finalization, says, store, store_late, stores, written_stored}
 use Rattle.mar_model.specs.Plans.{let_go_plan}
 use Rattle.mar_model.specs.Ran.{Breaks, Does, DoesTask, FailsRead, FailsTask, Reached, Reads, Runs, Task, dispatches, does, ends}
 use Rattle.mar_model.specs.Scene.{Scene, Standing, Window, scene, seen_of, windowed}
@@ -122,20 +120,6 @@ module _ {T C : Type 0} (inner : List ℕ → List ℕ) (fault : C → Fault) (s
   pub Does-noted : (old new : Held) (life : Window) (r : Round) (retention : ℕ) (result : Result T C) → life.sizes.retention ≡ retention → OnOk result (new ≡ record (with_cache_of new old) { cutoff = greatest_of old.cutoff (at_round r ∷ []); witnessed = later_round old.witnessed (Some r); pairs = pair_of old.processed (greatest_of old.cutoff (at_round r ∷ [])) ∷ [] }) → OnOk result (PrunesCacheBy (pruned_by retention old.witnessed (r ∷ [])) old new) → OnOk result (ArePassed old.watches new.watches) → OnOk result (AreLawful new) → HearsUpTo asks (raise_asks old.cutoff (at_round r ∷ [])) asks' result → LosesSince fault old (record (written_pair (pair_of old.processed (greatest_of old.cutoff (at_round r ∷ [])))) { prunes = pruned_by retention old.witnessed (r ∷ []) }) new result → IfErr result (λ c. IsUsual (fault c)) → Does inner fault (does (progresses (note r)) ∷ []) (scene old life standing (heard_with told asks sends answers)) (scene new life standing (heard_with told asks' sends answers)) result
   Does-noted old new life r retention (Ok x) is same prunes passed lawful hears lost usual = Does-task inner fault (does (progresses (note r))) _ _ (Ok x) (record { prunes = subst (λ k. PrunesCacheBy (pruned_by k old.witnessed (r ∷ [])) old new) (sym is) prunes; passed = passed; same = same }, lawful, hears, refl) tt
   Does-noted old new life r retention (Err c) is same prunes passed lawful hears lost usual = Does-task {T = T} inner fault (does (progresses (note r))) (scene old life standing (heard_with told asks sends answers)) (scene new life standing (heard_with told asks' sends answers)) (Err c) tt (subst (λ k. LosesOver old (record (written_pair (pair_of old.processed (greatest_of old.cutoff (at_round r ∷ [])))) { prunes = pruned_by k old.witnessed (r ∷ []) }) (ended_on (fault c) new)) (sym is) lost, usual, hears, refl)
-
--- a tip is told where it is above the last one
-module _ (inner : List ℕ → List ℕ) (held : Held) (life : Window) (standing : Standing) (told : Option (List Report)) (asks : Option (List Call)) (sends : Option (List Sent)) (answers : List TicketAnswer) (r : Round) (h : ℕ) (d : List ℕ) (start : Scene) (whole rest : List Task) (reached : Reached inner start whole (does (says (tell r h d)) ∷ rest) (scene held life standing (heard_with told asks sends answers))) where
-  pub told-low : h ≤ life.tip → Reached inner start whole rest (scene held life standing (heard_with told asks sends answers))
-  told-low low = Reached-more inner start whole _ rest _ _ reached (subst (λ c. Hears told (cond c (new_tip r h d ∷ []) []) told) (sym is) (Hears-nothing told), ap (λ c. scene held (record life { tip = cond c h life.tip }) standing (heard_with told asks sends answers)) (sym is))
-    where
-      is : nat_lt life.tip h ≡ false
-      is = grind (arith, nat_tests)
-
-  pub told-high : (told' : Option (List Report)) → life.tip < h → Hears told (new_tip r h d ∷ []) told' → Reached inner start whole rest (scene held (record life { tip = h }) standing (heard_with told' asks sends answers))
-  told-high told' high hears = Reached-more inner start whole _ rest _ _ reached (subst (λ c. Hears told (cond c (new_tip r h d ∷ []) []) told') (sym is) hears, ap (λ c. scene held (record life { tip = cond c h life.tip }) standing (heard_with told' asks sends answers)) (sym is))
-    where
-      is : nat_lt life.tip h ≡ true
-      is = grind (arith, nat_tests)
 
 -- the sync of a ticket, where it was open
 module _ {C : Type 0} (inner : List ℕ → List ℕ) (fault : C → Fault) (old new : Held) (life : Window) (standing : Standing) (heard : Heard) where

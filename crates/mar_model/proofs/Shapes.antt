@@ -208,21 +208,13 @@ module _ (inner : List ℕ → List ℕ) where
   act_fills (stores a) s t is (done, joins, law, same) = fills_none _ _ (ap (λ (y : Scene). y.heard.reports) same)
   act_fills (says (tell r h d)) s t is (heard, same) = (tips_above s.life.tip r h d, above_fills s.life.tip r h d, heard)
   act_fills (says (ask calls)) s t is (heard, same) = fills_none _ _ (ap (λ (y : Scene). y.heard.reports) same)
-  act_fills (says (send x)) s t is did = absurd is
-  act_fills (says (reply a)) s t is did = absurd is
-  act_fills (caches a) s t is did = absurd is
-  act_fills (keeps_for a) s t is did = absurd is
-  act_fills (progresses a) s t is did = absurd is
+  act_fills _ s t is did = absurd is
 
   act_unfilled : (a : Act) (s : Scene) (x : Ending) (heard : Heard) → IsPassAct a → IsLost a s x heard → FillsTold s.heard.reports heard.reports
   act_unfilled (stores a) s x heard is (loses, kind, same) = fills_none _ _ (ap (λ (y : Heard). y.reports) same)
   act_unfilled (says (tell r h d)) s x heard is (ended, told, same) = ([], tt, told)
   act_unfilled (says (ask calls)) s x heard is (ended, asked, same) = fills_none _ _ (ap (λ (y : Heard). y.reports) same)
-  act_unfilled (says (send y)) s x heard is fails = absurd is
-  act_unfilled (says (reply a)) s x heard is fails = absurd is
-  act_unfilled (caches a) s x heard is fails = absurd is
-  act_unfilled (keeps_for a) s x heard is fails = absurd is
-  act_unfilled (progresses a) s x heard is fails = absurd is
+  act_unfilled _ s x heard is fails = absurd is
 
   row_fills : (acts : List Act) (s t : Scene) → AllByRecursion IsPassAct acts → RunsActs inner s acts t → FillsTold s.heard.reports t.heard.reports
   row_fills [] s t are reads = fills_none _ _ (reads_told s t reads)
@@ -456,21 +448,15 @@ fill_tips-may a b more (handed_over t x ∷ fills) are = absurd are
 abbrev pub Mute : List Says → Type 0
 Mute [] = ⊤
 Mute (quietly ∷ xs) = Mute xs
-Mute (telling r h d ∷ xs) = ⊥
-Mute (filling ∷ xs) = ⊥
-Mute (handing ∷ xs) = ⊥
+Mute _ = ⊥
 
 mute_done : (says : Says) (rest : List Says) (s t : Scene) → Mute (says ∷ rest) → SaidDone says s t → (t.heard.reports ≡ s.heard.reports) × Mute rest
 mute_done quietly rest s t mute is = (is.0, mute)
-mute_done (telling r h d) rest s t mute is = absurd mute
-mute_done filling rest s t mute is = absurd mute
-mute_done handing rest s t mute is = absurd mute
+mute_done _ rest s t mute is = absurd mute
 
 mute_lost : (says : Says) (rest : List Says) (s : Scene) (heard : Heard) → Mute (says ∷ rest) → SaidLost says s heard → heard.reports ≡ s.heard.reports
 mute_lost quietly rest s heard mute is = is
-mute_lost (telling r h d) rest s heard mute is = absurd mute
-mute_lost filling rest s heard mute is = absurd mute
-mute_lost handing rest s heard mute is = absurd mute
+mute_lost _ rest s heard mute is = absurd mute
 
 pub Breaks-mute : (inner : List ℕ → List ℕ) (plan : List Task) (s : Scene) (x : Ending) (heard : Heard) → Mute (map said plan) → Breaks inner s plan x heard → heard.reports ≡ s.heard.reports
 Breaks-mute inner [] s x heard mute fails = ap (λ (h : Heard). h.reports) fails.same

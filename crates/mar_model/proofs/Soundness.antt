@@ -12,7 +12,7 @@ use Rattle.mar_model.specs.Metadata.{Pair, pair_of}
 use Rattle.mar_model.specs.Cached.{cached_block, cached_finalization}
 use Rattle.mar_model.specs.Chain.{Chain}
 use Rattle.mar_model.specs.Config.{Config}
-use Rattle.mar_model.specs.Event.{Event, ack_marked, acked_to, block_buffered, buffer_ended, life_started, message_told, peer_answered, serve_ended, sync_finished}
+use Rattle.mar_model.specs.Event.{Event, acked_to, life_started}
 use Rattle.mar_model.specs.Node.{Agrees, AreBlocksOf, AreCachedOf, AreFinalizationsOf, BlocksAgree, Ended, FloorSafe, HasAnchor, IsFinalized, IsGood, IsHonest, Node, left_by}
 use Rattle.mar_model.specs.Lives.{BackedBy, IsGoodEnded}
 use Rattle.mar_model.specs.Promise.{IsGoodFor, IsGoodUntold}
@@ -73,13 +73,7 @@ IsSound-untold chain n tip sound = record {
 -- whatever the event, the node before it is good once some tip is told
 pub untold : (config : Config) (chain : Chain) (n : Node) (e : Event) → IsGoodFor config chain n (e ∷ []) → IsGoodUntold config chain n
 untold config chain n (life_started f) good = good
-untold config chain n (message_told t m) good = (n.tip, good)
-untold config chain n (ack_marked t m) good = (n.tip, good)
-untold config chain n (sync_finished t) good = (n.tip, good)
-untold config chain n (peer_answered a) good = (n.tip, good)
-untold config chain n serve_ended good = (n.tip, good)
-untold config chain n (block_buffered b) good = (n.tip, good)
-untold config chain n buffer_ended good = (n.tip, good)
+untold config chain n _ good = (n.tip, good)
 
 pub IsGood-from_parts : (config : Config) (chain : Chain) (n : Node) → IsSound chain n → IsHonest chain n.asked n.peers → IsSteady config n → IsGood config chain n
 IsGood-from_parts config chain n sound honest steady = record {

@@ -22,53 +22,41 @@ use Rattle.mar_model.specs.Promise.{AreOne, IsGoodUntold, IsLawfulStep, KeepsPro
 use Rattle.mar_model.specs.Step.{AreTipsOf, Report}
 use Rattle.mar_model.proofs.CacheOver.{moves_none, own_none}
 use Rattle.mar_model.proofs.Cutting.{usual_not_by_value, usual_not_dropped}
+use Rattle.mar_model.proofs.EntryLists.{contains_none}
 use Rattle.mar_model.proofs.EventPromises.{quiet_cut, told_cut}
 use Rattle.mar_model.proofs.Filtered.{all_found_within}
 use Rattle.mar_model.proofs.KnownBlocks.{AreOne-within}
-use Rattle.mar_model.proofs.Growing.{Grown-same}
 use Rattle.mar_model.proofs.Handing.{Hears-nothing, HearsFront-nothing}
-use Rattle.mar_model.proofs.PlainEvents.{Certificates-same, EntersAt-same, KeepsFrom-same, Writes-same, nothing_put}
-use Rattle.mar_model.proofs.Reaching.{Reaches}
+use Rattle.mar_model.proofs.PlainEvents.{Certificates-same, EntersAt-same, Writes-same}
+use Rattle.mar_model.proofs.Reaching.{PutsOwn-same, Reaches}
 use Rattle.mar_model.proofs.Tips.{newest_tips-chain, newest_tips-rise, newest_tips-tips}
 use Rattle.mar_model.proofs.StillGood.{IsGood-tipped}
 
 module _ {P E : Type 0} (config : Config) (chain : Chain) (a : Seen P E) (buffer : List Block) (waiting : Waiting) (nested : IsNested a.held.blocks) (certs_nested : IsNested a.held.certs) (untold : IsGoodUntold config chain (node_of a buffer waiting)) where
   pub Reaches-start : (m : Seen P E) → a.held.lowests ≡ a.held.lowest ∷ [] → IsRead (with_newest a) m → AreOne config.inner (known_blocks chain (node_of a buffer waiting)) → Reaches config chain a (life_started None) buffer waiting (newest_tips config.inner a.life.tip (newest a.held.certs.held)) m
   Reaches-start m own_lowest same one = subst (Reaches config chain a (life_started None) buffer waiting (newest_tips config.inner a.life.tip (newest a.held.certs.held))) (sym same) (record {
-    no_effect = refl;
-    kept = refl;
-    next_ack = refl;
-    next_sync = refl;
-    sizes = refl;
-    processed = refl;
-    cutoff = refl;
-    blocks = KeepsFrom-same _ a.held.blocks;
-    certs = KeepsFrom-same _ a.held.certs;
-    put_blocks = [];
-    put_certs = [];
-    blocks_grown = Grown-same a.held.blocks a.held.blocks nested refl;
-    certs_grown = Grown-same a.held.certs a.held.certs certs_nested refl;
-    of_blocks = tt;
-    of_certs = tt;
-    own_blocks = λ x has. nothing_put x has;
-    own_certs = λ x has. nothing_put x has;
-    certificates = Certificates-same a (with_newest a) (life_started None) buffer waiting refl;
-    writes = (Writes-same a (with_newest a) (life_started None) buffer waiting refl refl refl (λ syncs. refl) (λ syncs. refl)).0;
+    comes = record {
+      no_part = record { no_effect = refl; no_query = refl; no_fault = refl; sends = refl; answers = λ lowest. refl; subscriptions = refl; no_syncs = λ n'. refl };
+      kept = refl;
+      next_ack = refl;
+      next_sync = refl;
+      sizes = refl;
+      processed = refl;
+      cutoff = refl;
+      blocks = PutsOwn-same _ _ _ a.held.blocks a.held.blocks nested refl;
+      certs = PutsOwn-same _ _ _ a.held.certs a.held.certs certs_nested refl;
+      certificates = Certificates-same a (with_newest a) (life_started None) buffer waiting refl;
+      writes = (Writes-same a (with_newest a) (life_started None) buffer waiting refl refl refl (λ syncs. refl) (λ syncs. refl)).0;
+      are_tips = newest_tips-tips config.inner a.life.tip (newest a.held.certs.held);
+      tips_rise = newest_tips-rise config.inner a.life.tip (newest a.held.certs.held);
+      tips_chain = newest_tips-chain config.inner chain (buffer ++ filter_map cached_block (a.held.cache.kept.held ++ a.held.cache.kept.may)) one a.life.tip a.held.certs.held untold.1.of_chain.stores.held_certs;
+      cache = moves_none config chain a (with_watches (with_newest a) m.held.watches) (life_started None) buffer waiting refl refl refl refl own_lowest refl refl refl refl refl;
+      stored = tt;
+      stored_late = tt;
+    };
     no_repair = (Writes-same a (with_newest a) (life_started None) buffer waiting refl refl refl (λ syncs. refl) (λ syncs. refl)).1;
     unblocked = (Writes-same a (with_newest a) (life_started None) buffer waiting refl refl refl (λ syncs. refl) (λ syncs. refl)).2;
     enters = EntersAt-same _ (node_of a buffer waiting) (node_of (with_newest a) buffer waiting) refl refl;
-    are_tips = newest_tips-tips config.inner a.life.tip (newest a.held.certs.held);
-    tips_rise = newest_tips-rise config.inner a.life.tip (newest a.held.certs.held);
-    tips_chain = newest_tips-chain config.inner chain (buffer ++ filter_map cached_block (a.held.cache.kept.held ++ a.held.cache.kept.may)) one a.life.tip a.held.certs.held untold.1.of_chain.stores.held_certs;
-    cache = moves_none config chain a (with_watches (with_newest a) m.held.watches) (life_started None) buffer waiting refl refl refl refl own_lowest refl refl refl refl refl;
-    stored = tt;
-    stored_late = tt;
-    no_query = refl;
-    no_fault = refl;
-    sends = refl;
-    answers = λ lowest. refl;
-    subscriptions = refl;
-    no_syncs = λ n'. refl;
   })
 
 -- an actor that took up what a crash left of its cache
@@ -118,7 +106,7 @@ module _ {P E : Type 0} (epochs : Epochs) (inner : List ℕ → List ℕ) (parti
   promise-untold told told' heard x silent lost usual fresh config chain waiting set step = record {
     begun = node_of a buffer waiting;
     takes = inl refl;
-    cuts = quiet_cut epochs inner partition a buffer config chain waiting (life_started None) step refl (λ fault. refl) told told' heard heard nothing_written x silent (HearsFront-nothing heard _ heard (Hears-nothing heard)) refl refl (own_none config chain (node_of a buffer waiting) (life_started None)) tt tt (λ y has. nothing_put y has) (λ y has. nothing_put y has) lost (λ p has. nothing_put p has) usual;
+    cuts = quiet_cut epochs inner partition a buffer config chain waiting (life_started None) step refl (λ fault. refl) told told' heard heard nothing_written x silent (HearsFront-nothing heard _ heard (Hears-nothing heard)) refl refl (own_none config chain (node_of a buffer waiting) (life_started None)) tt tt (λ y has. contains_none y has) (λ y has. contains_none y has) lost (λ p has. contains_none p has) usual;
   }
 
   -- the cache could not be taken up
@@ -129,5 +117,5 @@ module _ {P E : Type 0} (epochs : Epochs) (inner : List ℕ → List ℕ) (parti
     cuts = told_cut epochs inner partition a buffer config chain waiting (life_started None) step refl (λ fault. refl) (newest_tips inner a.life.tip (newest a.held.certs.held)) (newest_tip a.life.tip (newest a.held.certs.held))
         (newest_tips-tips inner a.life.tip (newest a.held.certs.held)) (newest_tips-rise inner a.life.tip (newest a.held.certs.held))
         (subst (λ i. AreTipsOf chain (newest_tips i a.life.tip (newest a.held.certs.held))) set.inner_is (newest_tips-chain config.inner chain (buffer ++ filter_map cached_block (a.held.cache.kept.held ++ a.held.cache.kept.may)) step.one a.life.tip a.held.certs.held step.good.1.of_chain.stores.held_certs))
-        told told' heard heard nothing_written x tips (HearsFront-nothing heard _ heard (Hears-nothing heard)) refl refl (own_none config chain (node_of a buffer waiting) (life_started None)) tt tt (λ y has. nothing_put y has) (λ y has. nothing_put y has) lost (λ p has. nothing_put p has) (usual_not_by_value x.fault usual) (usual_not_dropped x.fault usual);
+        told told' heard heard nothing_written x tips (HearsFront-nothing heard _ heard (Hears-nothing heard)) refl refl (own_none config chain (node_of a buffer waiting) (life_started None)) tt tt (λ y has. contains_none y has) (λ y has. contains_none y has) lost (λ p has. contains_none p has) (usual_not_by_value x.fault usual) (usual_not_dropped x.fault usual);
   }

@@ -8,12 +8,12 @@ use Rattle.mar_gate.specs.Writing.{Writing}
 use Rattle.mar_key.specs.Hears.{Hears}
 use Rattle.mar_key.specs.Processed.{height_in}
 use Rattle.mar_store.specs.Kept.{has_height}
-use Rattle.mar_store.proofs.Lookups.{AllByRecursion-append, AllByRecursion-contains, AllByRecursion-from_contains, AllByRecursion-within}
+use Rattle.mar_store.proofs.Lookups.{AllByRecursion-contains, AllByRecursion-from_contains}
 use Rattle.mar_model.specs.Acts.{AreLawful, SyncsBoth, SyncsUncovered, caches, load_cache}
 use Rattle.mar_model.specs.AllEntries.{LoadsEntries}
 use Rattle.mar_model.specs.CacheCalls.{none_goes}
 use Rattle.mar_model.specs.Cached.{Cached, cached_block, cached_finalization}
-use Rattle.mar_model.specs.Chain.{Chain, Finalizes, IsBlockAt}
+use Rattle.mar_model.specs.Chain.{Chain}
 use Rattle.mar_model.specs.Config.{Config}
 use Rattle.mar_model.specs.Event.{Event, life_started}
 use Rattle.mar_model.specs.Held.{Ending, Grew, Held, HeldCache, Remembered, Seen, nothing_written}
@@ -39,7 +39,7 @@ use Rattle.mar_model.proofs.PassOfChain.{Passed, passed}
 use Rattle.mar_model.proofs.PassRan.{RowRan}
 use Rattle.mar_model.proofs.PassReached as reached
 use Rattle.mar_model.proofs.Promises.{dispatched-by}
-use Rattle.mar_model.proofs.Reaching.{Reaches, ReachesBy}
+use Rattle.mar_model.proofs.Reaching.{PutsOwn-may, Reaches, ReachesBy}
 use Rattle.mar_model.proofs.StartCuts.{HasToldNewest, with_taken}
 use Rattle.mar_model.proofs.StartEvent.{IsLawfulStep-begun, Reaches-start}
 use Rattle.mar_model.proofs.StillGood.{IsGood-grown}
@@ -180,12 +180,10 @@ module _ {P E : Type 0} (life : Remembered P E) (epochs : Epochs) (inner : List 
         (subst (AllByRecursion (λ x. x.height ≤ t.life.tip)) (sym both.certs.held) tips_high)
       where
         may_blocks : AreBlocksOf chain v.blocks.may
-        may_blocks = AllByRecursion-within (λ x. IsBlockAt chain x.height x.value) v.blocks.may (s.held.blocks.may ++ by_sync.put_blocks) by_sync.blocks_grown.leaves.may
-            (AllByRecursion-append (λ x. IsBlockAt chain x.height x.value) s.held.blocks.may by_sync.put_blocks step.good.1.of_chain.stores.may_blocks by_sync.of_blocks)
+        may_blocks = PutsOwn-may _ _ _ s.held.blocks v.blocks by_sync.comes.blocks step.good.1.of_chain.stores.may_blocks
 
         may_certs : AreFinalizationsOf chain v.certs.may
-        may_certs = AllByRecursion-within (λ x. Finalizes chain x.height x.value.round x.value.payload) v.certs.may (s.held.certs.may ++ by_sync.put_certs) by_sync.certs_grown.leaves.may
-            (AllByRecursion-append (λ x. Finalizes chain x.height x.value.round x.value.payload) s.held.certs.may by_sync.put_certs step.good.1.of_chain.stores.may_certs by_sync.of_certs)
+        may_certs = PutsOwn-may _ _ _ s.held.certs v.certs by_sync.comes.certs step.good.1.of_chain.stores.may_certs
 
         n_high : AllByRecursion (λ x. x.height ≤ n.life.tip) n.held.certs.held
         n_high = subst (λ k. AllByRecursion (λ x. x.height ≤ k) n.held.certs.held) (sym (ap (λ l. l.tip) life_n))

@@ -59,8 +59,8 @@ record Silent (w : ℕ) (due : Option Fault) (plan : List Task) : Type 0 where
 module _ (w : ℕ) where
   answers-silent : (answers : List TicketAnswer) → Silent w None (answer_plan answers)
   answers-silent [] = record { windows_most = omega arith; syncs_none = refl; by_value = tt; due_is = refl; untold = tt; order = tt; tips_none = λ tip. refl }
-  answers-silent (a ∷ answers) = let rest = answers-silent answers in record
-      { windows_most = rest.windows_most; syncs_none = rest.syncs_none; by_value = rest.by_value; due_is = rest.due_is; untold = rest.untold; order = rest.order; tips_none = rest.tips_none }
+  answers-silent (a ∷ answers) = let rest = answers-silent answers in let none : syncs (answer_plan answers) ≡ 0 = rest.syncs_none in record
+      { windows_most = rest.windows_most; syncs_none = omega arith; by_value = rest.by_value; due_is = rest.due_is; untold = rest.untold; order = rest.order; tips_none = rest.tips_none }
 
   settle-silent : (b : Bool) → Silent w None (settle_plan b)
   settle-silent true = record { windows_most = omega arith; syncs_none = refl; by_value = tt; due_is = refl; untold = tt; order = tt; tips_none = λ tip. refl }
@@ -86,7 +86,7 @@ module _ (w : ℕ) where
       by mark_given marked left = subst (λ d. Silent w d ((oldest_plan mark_given o.height ++ drain_plan out) ++ rest)) (is mark_given marked)
           (record {
             windows_most = left.windows_most;
-            syncs_none = left.syncs_none;
+            syncs_none = let none : syncs (drain_plan out ++ rest) ≡ 0 = left.syncs_none in omega arith;
             by_value = left.by_value;
             due_is = left.due_is;
             untold = left.untold;
@@ -194,6 +194,8 @@ module _ {P E : Type 0} (life : Remembered P E) (inner : List ℕ → List ℕ) 
   message-told t (report_notarization n) = plain (message_told t (report_notarization n)) refl refl (notar-shape n.round n found.block found.is_verified)
   message-told t (prepared r peers b) = plain (message_told t (prepared r peers b)) refl refl
       (record { windows_most = omega arith; syncs_most = omega arith; by_value = tt; due_is = refl; order = tt; fills_may = unfilled false; tips_are = inl refl })
+  message-told t (hint_finalized h ps) = plain (message_told t (hint_finalized h ps)) refl refl
+      (record { windows_most = omega arith; syncs_most = omega arith; by_value = tt; due_is = refl; order = tt; fills_may = unfilled false; tips_are = inl refl })
   message-told (Some t) (verified r b) = plain (message_told (Some t) (verified r b)) refl refl
       (record { windows_most = omega arith; syncs_most = omega arith; by_value = tt; due_is = refl; order = tt; fills_may = unfilled false; tips_are = inl refl })
   message-told (Some t) (proposed r peers b) = plain (message_told (Some t) (proposed r peers b)) refl refl
@@ -207,7 +209,6 @@ module _ {P E : Type 0} (life : Remembered P E) (inner : List ℕ → List ℕ) 
   message-told (Some t) get_processed = plain (message_told (Some t) get_processed) refl refl (answering 1 t get_processed)
   message-told (Some t) get_anchor = plain (message_told (Some t) get_anchor) refl refl (answering 1 t get_anchor)
   message-told (Some t) (get_verified r) = plain (message_told (Some t) (get_verified r)) refl refl (answering 1 t (get_verified r))
-  message-told (Some t) (hint_finalized h ps) = plain (message_told (Some t) (hint_finalized h ps)) refl refl (answering 1 t (hint_finalized h ps))
   message-told (Some t) (set_floor f) = plain (message_told (Some t) (set_floor f)) refl refl (answering 1 t (set_floor f))
   message-told (Some t) (prune_below h) = plain (message_told (Some t) (prune_below h)) refl refl (answering 1 t (prune_below h))
   message-told (Some t) (hint_notarized r c) = plain (message_told (Some t) (hint_notarized r c)) refl refl (answering 1 t (hint_notarized r c))
@@ -222,7 +223,6 @@ module _ {P E : Type 0} (life : Remembered P E) (inner : List ℕ → List ℕ) 
   message-told None get_processed = plain (message_told None get_processed) refl refl (none-shape w false 1 s.life.tip)
   message-told None get_anchor = plain (message_told None get_anchor) refl refl (none-shape w false 1 s.life.tip)
   message-told None (get_verified r) = plain (message_told None (get_verified r)) refl refl (none-shape w false 1 s.life.tip)
-  message-told None (hint_finalized h ps) = plain (message_told None (hint_finalized h ps)) refl refl (none-shape w false 1 s.life.tip)
   message-told None (set_floor f) = plain (message_told None (set_floor f)) refl refl (none-shape w false 1 s.life.tip)
   message-told None (prune_below h) = plain (message_told None (prune_below h)) refl refl (none-shape w false 1 s.life.tip)
   message-told None (hint_notarized r c) = plain (message_told None (hint_notarized r c)) refl refl (none-shape w false 1 s.life.tip)
@@ -241,7 +241,7 @@ module _ {P E : Type 0} (life : Remembered P E) (inner : List ℕ → List ℕ) 
       let shape = silent-shape w false 1 s.life.tip _ (marked_plan (with_mark t m s.life.out)) silent in
       record {
         windows_most = shape.windows_most;
-        syncs_most = shape.syncs_most;
+        syncs_most = let most : syncs (marked_plan (with_mark t m s.life.out)) ≤ 1 = shape.syncs_most in omega arith;
         by_value = shape.by_value;
         due_is = shape.due_is;
         order = shape.order;

@@ -11,7 +11,7 @@ use Rattle.mar_gate.specs.Writing.{Writing, total_writes, with_started}
 use Rattle.mar_key.specs.Hears.{Hears}
 use Rattle.mar_key.specs.Processed.{first_unprocessed, height_in, height_of}
 use Rattle.mar_store.specs.Kept.{has_height, value_at}
-use Rattle.mar_store.proofs.Lookups.{AllByRecursion-append, AllByRecursion-contains, AllByRecursion-from_contains, AllByRecursion-weaker, AllByRecursion-within, has_height-from_value}
+use Rattle.mar_store.proofs.Lookups.{AllByRecursion-contains, AllByRecursion-from_contains, AllByRecursion-weaker, has_height-from_value}
 use Rattle.mar_model.specs.Acts.{AreLawful}
 use Rattle.mar_model.specs.Cached.{Cached, cached_block, cached_finalization, finalization_entry}
 use Rattle.mar_model.specs.Chain.{Chain, Finalizes, IsBlockAt, IsFinal}
@@ -28,7 +28,9 @@ use Rattle.mar_model.specs.Scene.{Scene}
 use Rattle.mar_model.specs.Step.{IsStored}
 use Rattle.mar_model.specs.Stored.{at_own_height, is_certified}
 use Rattle.mar_model.proofs.CacheOver.{IsCacheOf-put, cached_as, held_put, may_put}
+use Rattle.mar_model.proofs.Cutting.{only_one}
 use Rattle.mar_model.proofs.EventPromises as event
+use Rattle.mar_model.proofs.FillsOfChain.{itself}
 use Rattle.mar_model.proofs.Filtered.{all_found_from, all_found_of, all_found_within}
 use Rattle.mar_model.proofs.FinalizationEvent as final
 use Rattle.mar_model.proofs.FinalizationEvent.{last_position, nested_heights}
@@ -41,20 +43,12 @@ use Rattle.mar_model.proofs.PassOfChain.{Passed, passed}
 use Rattle.mar_model.proofs.PassRan.{RowRan}
 use Rattle.mar_model.proofs.PassReached as reached
 use Rattle.mar_model.proofs.Promises.{started-by}
-use Rattle.mar_model.proofs.Reaching.{Reaches, ReachesBy}
+use Rattle.mar_model.proofs.Reaching.{PutsOwn-may, Reaches, ReachesBy}
 use Rattle.mar_model.proofs.StillGood.{IsGood-grown}
 use Rattle.mar_model.proofs.StoredValues.{all_held, entered_height}
 use Rattle.mar_model.proofs.SyncPromise.{at}
 use Rattle.mar_model.proofs.Tips.{above_from, tip_after-high}
 use Rattle.mar_model.proofs.Handing.{Hears-then}
-
--- all of a list
-each_of : {T : Type 0} (xs : List T) → AllByRecursion (Contains xs) xs
-each_of xs = AllByRecursion-from_contains (Contains xs) xs (λ x has. has)
-
-one_of : {T : Type 0} (x y : T) → Contains (x ∷ []) y → x ≡ y
-one_of x y (zero, low, is) = is
-one_of x y (suc k, low, is) = absurd (omega arith)
 
 module _ {P E : Type 0} (life : Remembered P E) (epochs : Epochs) (inner : List ℕ → List ℕ) (partition : IsPartition epochs) (buffer : List Block) (s : Scene) (law : AreLawful s.held) (f : Finalization) (now : Held)
     (caches : CachesFinalization f s.held now) (b : Block) (found : found_at_hand inner buffer now.cache.kept.held now.blocks.held f.payload ≡ Some b) (above_now : nat_lt (height_of now.processed) b.height ≡ true)
@@ -114,8 +108,8 @@ module _ {P E : Type 0} (life : Remembered P E) (epochs : Epochs) (inner : List 
     -- a cached block was cached before
     near_before : (xs : List Cached) (ys : List Cached) → ((x : Cached) → Contains xs x → Contains (ys ++ finalization_entry f ∷ []) x) → (c : Block) → Contains (filter_map cached_block xs) c → Contains (filter_map cached_block ys) c
     near_before xs ys within c has = AllByRecursion-contains (Contains (filter_map cached_block ys)) (filter_map cached_block xs) c
-        (all_found_from cached_block (Contains (filter_map cached_block ys)) xs (λ x d there found_d. ⊎_elim (λ old. all_found_of cached_block (Contains (filter_map cached_block ys)) ys x d (each_of (filter_map cached_block ys)) old found_d)
-        (λ new_one. absurd (let none : ◌≡◌ {A = Option Block} None (Some d) = ap cached_block (one_of (finalization_entry f) x new_one) ∙ found_d in cc)) (Contains-append_cases ys (finalization_entry f ∷ []) x (within x there)))) has
+        (all_found_from cached_block (Contains (filter_map cached_block ys)) xs (λ x d there found_d. ⊎_elim (λ old. all_found_of cached_block (Contains (filter_map cached_block ys)) ys x d (itself (filter_map cached_block ys)) old found_d)
+        (λ new_one. absurd (let none : ◌≡◌ {A = Option Block} None (Some d) = ap cached_block (only_one (finalization_entry f) x new_one) ∙ found_d in cc)) (Contains-append_cases ys (finalization_entry f ∷ []) x (within x there)))) has
 
     cached_near : (c : Block) → Contains (filter_map cached_block u.held.cache.kept.held) c → Contains (filter_map cached_block s.held.cache.kept.held) c
     cached_near c has = near_before now.cache.kept.held s.held.cache.kept.held (held_put f s.held now loaded caches.puts) c (subst (λ k. Contains (filter_map cached_block k.kept.held) c) cache_u has)
@@ -125,11 +119,11 @@ module _ {P E : Type 0} (life : Remembered P E) (epochs : Epochs) (inner : List 
 
     filtered_left : (xs ys : List Cached) (c : Block) → Contains (filter_map cached_block xs) c → Contains (filter_map cached_block (xs ++ ys)) c
     filtered_left xs ys c has = AllByRecursion-contains (Contains (filter_map cached_block (xs ++ ys))) (filter_map cached_block xs) c
-        (all_found_from cached_block (Contains (filter_map cached_block (xs ++ ys))) xs (λ x d there found_d. all_found_of cached_block (Contains (filter_map cached_block (xs ++ ys))) (xs ++ ys) x d (each_of (filter_map cached_block (xs ++ ys))) (Contains-append_left xs ys x there) found_d)) has
+        (all_found_from cached_block (Contains (filter_map cached_block (xs ++ ys))) xs (λ x d there found_d. all_found_of cached_block (Contains (filter_map cached_block (xs ++ ys))) (xs ++ ys) x d (itself (filter_map cached_block (xs ++ ys))) (Contains-append_left xs ys x there) found_d)) has
 
     filtered_right : (xs ys : List Cached) (c : Block) → Contains (filter_map cached_block ys) c → Contains (filter_map cached_block (xs ++ ys)) c
     filtered_right xs ys c has = AllByRecursion-contains (Contains (filter_map cached_block (xs ++ ys))) (filter_map cached_block ys) c
-        (all_found_from cached_block (Contains (filter_map cached_block (xs ++ ys))) ys (λ x d there found_d. all_found_of cached_block (Contains (filter_map cached_block (xs ++ ys))) (xs ++ ys) x d (each_of (filter_map cached_block (xs ++ ys))) (Contains-append_right xs ys x there) found_d)) has
+        (all_found_from cached_block (Contains (filter_map cached_block (xs ++ ys))) ys (λ x d there found_d. all_found_of cached_block (Contains (filter_map cached_block (xs ++ ys))) (xs ++ ys) x d (itself (filter_map cached_block (xs ++ ys))) (Contains-append_right xs ys x there) found_d)) has
 
     abbrev olds : List Block
     olds = filter_map cached_block (s.held.cache.kept.held ++ s.held.cache.kept.may)
@@ -156,8 +150,8 @@ module _ {P E : Type 0} (life : Remembered P E) (epochs : Epochs) (inner : List 
             (all_found_from cached_block (Contains olds) (t.held.cache.kept.held ++ t.held.cache.kept.may) (λ x d there found_d. entry x d found_d (Contains-append_cases u.held.cache.kept.held u.held.cache.kept.may x (subst (λ k. Contains (k.kept.held ++ k.kept.may) x) (ap (λ h. h.cache) ran.same) there)))) has
           where
             entry : (x : Cached) (d : Block) → cached_block x ≡ Some d → Contains u.held.cache.kept.held x ⊎ Contains u.held.cache.kept.may x → Contains olds d
-            entry x d found_d (inl held) = filtered_left s.held.cache.kept.held s.held.cache.kept.may d (cached_near d (all_found_of cached_block (Contains (filter_map cached_block u.held.cache.kept.held)) u.held.cache.kept.held x d (each_of (filter_map cached_block u.held.cache.kept.held)) held found_d))
-            entry x d found_d (inr may) = filtered_right s.held.cache.kept.held s.held.cache.kept.may d (may_near d (all_found_of cached_block (Contains (filter_map cached_block u.held.cache.kept.may)) u.held.cache.kept.may x d (each_of (filter_map cached_block u.held.cache.kept.may)) may found_d))
+            entry x d found_d (inl held) = filtered_left s.held.cache.kept.held s.held.cache.kept.may d (cached_near d (all_found_of cached_block (Contains (filter_map cached_block u.held.cache.kept.held)) u.held.cache.kept.held x d (itself (filter_map cached_block u.held.cache.kept.held)) held found_d))
+            entry x d found_d (inr may) = filtered_right s.held.cache.kept.held s.held.cache.kept.may d (may_near d (all_found_of cached_block (Contains (filter_map cached_block u.held.cache.kept.may)) u.held.cache.kept.may x d (itself (filter_map cached_block u.held.cache.kept.may)) may found_d))
 
         by : (c : Block) → Contains chain.blocks c ⊎ Contains (buffer ++ filter_map cached_block (t.held.cache.kept.held ++ t.held.cache.kept.may)) c → Contains known c
         by c (inl own) = chain_known inner chain a buffer waiting c own
@@ -172,7 +166,7 @@ module _ {P E : Type 0} (life : Remembered P E) (epochs : Epochs) (inner : List 
     own_is = ap (λ x. own_writes n x no_floor) (final.storing_by config chain a f buffer waiting step.lawful step.one step.good step.reported.0 (Some b) is) ∙ ap (λ (c : Bool). if c then b.height ∷ [] else []) above
 
     stored : IsStored (node_of (at life u) buffer waiting) (record { height = b.height; with_certificate = true })
-    stored = subst (λ x. IfSome x (IsStored (node_of (at life u) buffer waiting))) (final.storing_by config chain a f buffer waiting step.lawful step.one step.good step.reported.0 (Some b) is) reach.stored
+    stored = subst (λ x. IfSome x (IsStored (node_of (at life u) buffer waiting))) (final.storing_by config chain a f buffer waiting step.lawful step.one step.good step.reported.0 (Some b) is) reach.comes.stored
 
     processed_u : u.held.processed ≡ s.held.processed
     processed_u = ap (λ k. k.held.processed) puts.same
@@ -211,8 +205,8 @@ module _ {P E : Type 0} (life : Remembered P E) (epochs : Epochs) (inner : List 
             inside d same = cc
 
             entry : (x : Cached) (d : Finalization) → cached_finalization x ≡ Some d → Contains s.held.cache.kept.held x ⊎ Contains (finalization_entry f ∷ []) x → Contains (f ∷ filter_map cached_finalization s.held.cache.kept.held) d
-            entry x d found_d (inl old) = let there = all_found_of cached_finalization (Contains (filter_map cached_finalization s.held.cache.kept.held)) s.held.cache.kept.held x d (each_of (filter_map cached_finalization s.held.cache.kept.held)) old found_d in (suc there.0, (let low = there.1 in omega arith), there.2)
-            entry x d found_d (inr new_one) = (zero, omega arith, inside d (ap cached_finalization (one_of (finalization_entry f) x new_one) ∙ found_d))
+            entry x d found_d (inl old) = let there = all_found_of cached_finalization (Contains (filter_map cached_finalization s.held.cache.kept.held)) s.held.cache.kept.held x d (itself (filter_map cached_finalization s.held.cache.kept.held)) old found_d in (suc there.0, (let low = there.1 in omega arith), there.2)
+            entry x d found_d (inr new_one) = (zero, omega arith, inside d (ap cached_finalization (only_one (finalization_entry f) x new_one) ∙ found_d))
 
         held_own : (h : ℕ) → IsTrue (list_any (λ k. k == h) (b.height ∷ [])) → IsTrue (has_height u.held.blocks.held h)
         held_own h any = by (b.height == h) refl any
@@ -273,12 +267,10 @@ module _ {P E : Type 0} (life : Remembered P E) (epochs : Epochs) (inner : List 
         stays h low has = subst (λ xs. IsTrue (has_height xs h)) (sym sure_new) has
 
         may_blocks : AreBlocksOf chain t.held.blocks.may
-        may_blocks = AllByRecursion-within (λ x. IsBlockAt chain x.height x.value) t.held.blocks.may (s.held.blocks.may ++ by_pass.put_blocks) by_pass.blocks_grown.leaves.may
-            (AllByRecursion-append (λ x. IsBlockAt chain x.height x.value) s.held.blocks.may by_pass.put_blocks step.good.of_chain.stores.may_blocks by_pass.of_blocks)
+        may_blocks = PutsOwn-may _ _ _ s.held.blocks t.held.blocks by_pass.comes.blocks step.good.of_chain.stores.may_blocks
 
         may_certs : AreFinalizationsOf chain t.held.certs.may
-        may_certs = AllByRecursion-within (λ x. Finalizes chain x.height x.value.round x.value.payload) t.held.certs.may (s.held.certs.may ++ by_pass.put_certs) by_pass.certs_grown.leaves.may
-            (AllByRecursion-append (λ x. Finalizes chain x.height x.value.round x.value.payload) s.held.certs.may by_pass.put_certs step.good.of_chain.stores.may_certs by_pass.of_certs)
+        may_certs = PutsOwn-may _ _ _ s.held.certs t.held.certs by_pass.comes.certs step.good.of_chain.stores.may_certs
 
         tip_u : u.life.tip ≡ tip_after s.life.tip b
         tip_u = ap (λ k. k.life.tip) puts.same

@@ -37,10 +37,6 @@ pub all_held : {T : Type 0} (Q : At T → Type 0) (ignored : Bool) (old : List (
 all_held Q true old x new put all own = subst (AllByRecursion Q) (sym put) all
 all_held Q false old x new put all own = subst (AllByRecursion Q) (sym put) (AllByRecursion-push Q old x all own)
 
--- and so for all that a crash can leave
-pub all_may : {T : Type 0} (Q : At T → Type 0) (ignored : Bool) (old : Kept (At T)) (x : At T) (new : Kept (At T)) → Puts ignored old x new → AllByRecursion Q old.may → Q x → AllByRecursion Q new.may
-all_may Q ignored old x new puts all own = AllByRecursion-within Q new.may (old.may ++ x ∷ []) puts.may (AllByRecursion-push Q old.may x all own)
-
 -- so it keeps all that stood
 pub KeepsFrom-put : {T : Type 0} (bound : ℕ) (ignored : Bool) (old : Kept (At T)) (x : At T) (new : Kept (At T)) → Puts ignored old x new → KeepsFrom bound old new
 KeepsFrom-put bound ignored old x new puts = record {

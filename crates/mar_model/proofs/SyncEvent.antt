@@ -21,12 +21,13 @@ use Rattle.mar_model.specs.Promise.{Waiting, node_of}
 use Rattle.mar_model.specs.Step.{KeepsFrom, Writes}
 use Rattle.mar_model.specs.Answers.{to, true_value}
 use Rattle.mar_model.proofs.Cutting.{keeps_heights}
+use Rattle.mar_model.proofs.EntryLists.{contains_none}
 use Rattle.mar_model.proofs.FinalizationEvent.{nested_heights}
 use Rattle.mar_model.proofs.FloorSafety.{FloorSafe-still}
 use Rattle.mar_model.proofs.Growing.{Grown}
 use Rattle.mar_model.proofs.CacheOver.{moves_none}
 use Rattle.mar_model.proofs.OpenSyncs.{covered-none, waits-none, without-none}
-use Rattle.mar_model.proofs.PlainEvents.{EntersAt-same, Writes-none, nothing_put}
+use Rattle.mar_model.proofs.PlainEvents.{EntersAt-same, Writes-none}
 use Rattle.mar_model.proofs.Reaching.{Reaches}
 use Rattle.mar_model.proofs.SyncTickets.{position-stays, total-finished}
 use Rattle.mar_model.proofs.StillGood.{IsGood-grown}
@@ -53,43 +54,31 @@ module _ {P E : Type 0} (config : Config) (chain : Chain) (a m : Seen P E) (t : 
   -- a sync of both archives that finished, or one that wasn't open, reaches the actor in which it makes more sure
   pub Reaches-finished : AreCached a.held → NoneHas t a.held.cache.syncs → IsNested m.held.blocks → IsNested m.held.certs → Reaches config chain a (sync_finished t) buffer waiting [] m
   Reaches-finished cached none new_nested new_certs = record {
-    no_effect = refl;
-    kept = ap (λ s. s.life.out) finishes.same;
-    next_ack = ap (λ s. s.life.next_ack) finishes.same;
-    next_sync = ap (λ s. s.held.writes.next_sync) finishes.same;
-    sizes = ap (λ s. s.life.sizes) finishes.same;
-    processed = ap (λ s. s.held.processed) finishes.same;
-    cutoff = ap (λ s. s.held.cutoff) finishes.same;
-    blocks = KeepsFrom-finished a.held.blocks m.held.blocks finishes.blocks;
-    certs = KeepsFrom-finished a.held.certs m.held.certs finishes.certs;
-    put_blocks = [];
-    put_certs = [];
-    blocks_grown = Grown-finished a.held.blocks m.held.blocks nested new_nested finishes.blocks;
-    certs_grown = Grown-finished a.held.certs m.held.certs certs_nested new_certs finishes.certs;
-    of_blocks = tt;
-    of_certs = tt;
-    own_blocks = λ x has. nothing_put x has;
-    own_certs = λ x has. nothing_put x has;
-    certificates = record {
-      entered = λ h f is. inl (subst (λ xs. value_at xs h ≡ Some f) finishes.certs.held is);
-      own = λ s f stores told none. inl (subst (λ xs. value_at xs s.height ≡ None) (sym finishes.certs.held) none);
+    comes = record {
+      no_part = record { no_effect = refl; no_query = refl; no_fault = refl; sends = refl; answers = λ lowest. ap (λ o. map (λ k. to k true_value) (option_to_list o)) (waits-none t a.held.cache.syncs none); subscriptions = refl; no_syncs = λ n'. refl };
+      kept = ap (λ s. s.life.out) finishes.same;
+      next_ack = ap (λ s. s.life.next_ack) finishes.same;
+      next_sync = ap (λ s. s.held.writes.next_sync) finishes.same;
+      sizes = ap (λ s. s.life.sizes) finishes.same;
+      processed = ap (λ s. s.held.processed) finishes.same;
+      cutoff = ap (λ s. s.held.cutoff) finishes.same;
+      blocks = record { keeps = KeepsFrom-finished a.held.blocks m.held.blocks finishes.blocks; put = []; grown = Grown-finished a.held.blocks m.held.blocks nested new_nested finishes.blocks; of_chain = tt; own = λ x has. contains_none x has };
+      certs = record { keeps = KeepsFrom-finished a.held.certs m.held.certs finishes.certs; put = []; grown = Grown-finished a.held.certs m.held.certs certs_nested new_certs finishes.certs; of_chain = tt; own = λ x has. contains_none x has };
+      certificates = record {
+        entered = λ h f is. inl (subst (λ xs. value_at xs h ≡ Some f) finishes.certs.held is);
+        own = λ s f stores told none. inl (subst (λ xs. value_at xs s.height ≡ None) (sym finishes.certs.held) none);
+      };
+      writes = written.0;
+      are_tips = tt;
+      tips_rise = ap (λ s. s.life.tip) finishes.same;
+      tips_chain = tt;
+      cache = moves_none config chain a m (sync_finished t) buffer waiting refl refl (without-none t a.held.cache.syncs none) (covered-none t a.held.cache.syncs none) cached.own_lowest refl (ap (λ s. s.held.witnessed) finishes.same) (ap (λ s. s.held.cache) finishes.same) (ap (λ s. s.held.lowest) finishes.same) (ap (λ s. s.held.lowests) finishes.same);
+      stored = tt;
+      stored_late = tt;
     };
-    writes = written.0;
     no_repair = written.1;
     unblocked = written.2;
     enters = EntersAt-same _ (node_of a buffer waiting) (node_of m buffer waiting) finishes.blocks.held finishes.certs.held;
-    are_tips = tt;
-    tips_rise = ap (λ s. s.life.tip) finishes.same;
-    tips_chain = tt;
-    cache = moves_none config chain a m (sync_finished t) buffer waiting refl refl (without-none t a.held.cache.syncs none) (covered-none t a.held.cache.syncs none) cached.own_lowest refl (ap (λ s. s.held.witnessed) finishes.same) (ap (λ s. s.held.cache) finishes.same) (ap (λ s. s.held.lowest) finishes.same) (ap (λ s. s.held.lowests) finishes.same);
-    stored = tt;
-    stored_late = tt;
-    no_query = refl;
-    no_fault = refl;
-    sends = refl;
-    answers = λ lowest. ap (λ o. map (λ k. to k true_value) (option_to_list o)) (waits-none t a.held.cache.syncs none);
-    subscriptions = refl;
-    no_syncs = λ n'. refl;
   }
 
   -- in which no more writes are counted

@@ -3,6 +3,7 @@ use Rattle.std.proofs.Common.{◌≡◌, ◌<◌, ◌≤◌, ℕ, max, List, [],
 use Rattle.std.specs.List.{AllByRecursion}
 use Rattle.std.proofs.lemmas.Bool.Decides.{nat_tests}
 use Rattle.std.proofs.lemmas.List.Elements.{Contains-append_left}
+use Rattle.std.proofs.lemmas.Option.{same_Some}
 use Rattle.mar_types.specs.Round.{Round}
 use Rattle.mar_cert.specs.Block.{Block}
 use Rattle.mar_cert.specs.Finalization.{Finalization}
@@ -74,11 +75,8 @@ tip_reports-chain chain tip f b final at = tips_above-chain chain tip f.round b.
 -- no entry stands above the last index
 pub below_last : {T : Type 0} (xs : List (At T)) (h : ℕ) → last_index xs ≡ Some h → AllByRecursion (λ x. x.height ≤ h) xs
 below_last [] h is = tt
-below_last {T = T} (x ∷ xs) h is = by (last_index xs) refl (inside is) (λ k. below_last xs k)
+below_last {T = T} (x ∷ xs) h is = by (last_index xs) refl (same_Some _ _ is) (λ k. below_last xs k)
   where
-    inside : {a b : ℕ} → Some a ≡ Some b → a ≡ b
-    inside p = cc
-
     by : (o : Option ℕ) → last_index xs ≡ o → greatest_of x.height o ≡ h → ((k : ℕ) → last_index xs ≡ Some k → AllByRecursion (λ y. y.height ≤ k) xs) → (x.height ≤ h) × AllByRecursion (λ y. y.height ≤ h) xs
     by None none at others = (omega arith, nothing xs none)
       where
@@ -92,11 +90,8 @@ below_last {T = T} (x ∷ xs) h is = by (last_index xs) refl (inside is) (λ k. 
 -- an entry stands at the last index
 pub at_last : {T : Type 0} (xs : List (At T)) (h : ℕ) → last_index xs ≡ Some h → (v : T) × (value_at xs h ≡ Some v)
 at_last [] h is = absurd cc
-at_last {T = T} (x ∷ xs) h is = by (last_index xs) refl (inside is) (λ k. at_last xs k)
+at_last {T = T} (x ∷ xs) h is = by (last_index xs) refl (same_Some _ _ is) (λ k. at_last xs k)
   where
-    inside : {a b : ℕ} → Some a ≡ Some b → a ≡ b
-    inside p = cc
-
     first : (b : Bool) → (x.height == h) ≡ b → (b ≡ false → (v : T) × (value_at xs h ≡ Some v)) → (v : T) × ((if b then Some x.value else value_at xs h) ≡ Some v)
     first true same other = (x.value, refl)
     first false same other = other refl

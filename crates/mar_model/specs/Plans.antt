@@ -4,18 +4,18 @@ use Rattle.mar_types.specs.Round.{Round}
 use Rattle.mar_cert.specs.Block.{Block}
 use Rattle.mar_cert.specs.Finalization.{Finalization, Notarization}
 use Rattle.mar_key.specs.Processed.{height_of}
-use Rattle.mar_store.specs.Kept.{At}
+use Rattle.mar_store.specs.Kept.{At, value_at}
 use Rattle.mar_model.specs.Acks.{Mark, Outstanding, given_oldest, is_given, mark_dropped, mark_given, mark_waiting, with_mark}
 use Rattle.mar_model.specs.Answers.{Sent, TicketAnswer, to}
 use Rattle.mar_model.specs.Event.{Event, ack_marked, life_started, message_told, sync_finished}
 use Rattle.mar_model.specs.Faults.{Fault, dropped_ack, height_limit, last_height}
 use Rattle.mar_model.specs.Held.{Ending, Held, Seen}
-use Rattle.mar_model.specs.Messages.{Message, Peers, certify, prepared, proposed, report_finalization, report_notarization, verified}
+use Rattle.mar_model.specs.Messages.{Message, Peers, certify, hint_finalized, prepared, proposed, report_finalization, report_notarization, verified}
 use Rattle.mar_model.specs.Moves.{found_at_hand, is_verified_in, lacks_finalization}
 use Rattle.mar_model.specs.OpenSyncs.{is_cache_sync}
 use Rattle.mar_model.specs.Promise.{Heard}
 use Rattle.mar_model.specs.Queries.{value_found}
-use Rattle.mar_model.specs.Requests.{want_asks}
+use Rattle.mar_model.specs.Requests.{hint_asks, want_asks}
 use Rattle.mar_model.specs.Stored.{newest}
 use Rattle.mar_model.specs.Acts.{reply, ask, caches, finish_kept, finish_sync, keep_certified, keep_notarization, keep_notarized, keep_verified, keeps_for, load_cache, mark, note, process, progresses, put_finalization, says, send, start_sync, store, store_late, stores, sync_progress, sync_writes, tell}
 use Rattle.mar_model.specs.Ran.{Breaks, Does, Runs, Task, dispatches, does, ends, repairs}
@@ -75,6 +75,10 @@ found_by inner buffer h _ = record { block = None; is_verified = false }
 -- a prepared block is sent
 abbrev pub prepared_plan : Sent → List Task
 prepared_plan x = does (says (send x)) ∷ []
+
+-- a hinted finalization is asked for
+abbrev pub hint_plan : Held → ℕ → List ℕ → List Task
+hint_plan h height peers = does (says (ask (hint_asks h.processed height peers (value_at h.certs.held height)))) ∷ []
 
 -- a notarized block is kept where it is at hand and wasn't verified in its round
 abbrev pub keep_plan : Round → Option Block → Bool → List Task
@@ -144,6 +148,7 @@ message_plan inner buffer h (Some t) (verified r b) found = does (keeps_for (kee
 message_plan inner buffer h (Some t) (proposed r peers b) found = does (says (send (sent_block r peers b))) ∷ does (keeps_for (keep_verified r b t)) ∷ []
 message_plan inner buffer h t (prepared r peers b) found = prepared_plan (sent_block r peers b)
 message_plan inner buffer h (Some t) (certify r b) found = does (keeps_for (keep_certified r b t)) ∷ []
+message_plan inner buffer h t (hint_finalized k peers) found = hint_plan h k peers
 message_plan inner buffer h (Some t) m found = answer_plan (map (to t) (option_to_list (value_found inner h buffer m)))
 message_plan inner buffer h None m found = []
 

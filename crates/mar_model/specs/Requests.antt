@@ -41,8 +41,8 @@ abbrev pub permits_height : Option Processed → ℕ → Bool
 permits_height None h = true
 permits_height (Some p) h = nat_lt (height_in p) h
 
-abbrev pub height_asks : Node → Key → Annotation → ℕ → Option (List ℕ) → List Call
-height_asks n key annotation h targets = if permits_height n.processed h then fetch key annotation targets ∷ [] else []
+abbrev pub height_asks : Option Processed → Key → Annotation → ℕ → Option (List ℕ) → List Call
+height_asks processed key annotation h targets = if permits_height processed h then fetch key annotation targets ∷ [] else []
 
 abbrev pub notarized_asks : Node → Round → List Call
 notarized_asks n r = if covers n.cutoff r then [] else fetch (notarized_key r) (for_notarization r) None ∷ []
@@ -52,11 +52,12 @@ abbrev pub fallback_asks : Node → List ℕ → Fallback → Option Block → L
 fallback_asks n c fallback (Some b) = []
 fallback_asks n c wait None = []
 fallback_asks n c (fetch_by_round r) None = notarized_asks n r
-fallback_asks n c (fetch_by_commitment h) None = height_asks n (block_key c) (if is_known n.certified h c then certified_at h else untrusted_at h) h None
+fallback_asks n c (fetch_by_commitment h) None = height_asks n.processed (block_key c) (if is_known n.certified h c then certified_at h else untrusted_at h) h None
 
-abbrev pub hint_asks : Node → ℕ → List ℕ → Option Finalization → List Call
-hint_asks n h peers (Some f) = []
-hint_asks n h peers None = height_asks n (finalized_key h) (finalized_by_height h) h (Some peers)
+-- a hinted finalization is asked for of its peers, unless it is held
+abbrev pub hint_asks : Option Processed → ℕ → List ℕ → Option Finalization → List Call
+hint_asks processed h peers (Some f) = []
+hint_asks processed h peers None = height_asks processed (finalized_key h) (finalized_by_height h) h (Some peers)
 
 abbrev pub notarized_hint_asks : Node → Round → Option Block → List Call
 notarized_hint_asks n r (Some b) = []
@@ -65,7 +66,7 @@ notarized_hint_asks n r None = notarized_asks n r
 -- what a message asks for where the node lacks it
 abbrev pub told_asks : Node → Event → List Call
 told_asks n (message_told t (report_finalization f)) = reported_asks n f (at_hand n f.payload)
-told_asks n (message_told t (hint_finalized h peers)) = hint_asks n h peers (value_at n.certs.held h)
+told_asks n (message_told t (hint_finalized h peers)) = hint_asks n.processed h peers (value_at n.certs.held h)
 told_asks n (message_told t (hint_notarized r d)) = notarized_hint_asks n r (at_hand n d)
 told_asks n (message_told t (subscribe_digest d fallback)) = fallback_asks n d fallback (at_hand_digest n d)
 told_asks n (message_told t (subscribe_commitment c fallback)) = fallback_asks n c fallback (at_hand n c)

@@ -12,7 +12,7 @@ use Rattle.mar_model.specs.Event.{Answer, processed_after, brought_effect, life_
 use Rattle.mar_model.specs.Faults.{Fault, from_genesis}
 use Rattle.mar_key.specs.Keys.{Key, Annotation}
 use Rattle.mar_key.specs.Asked.{judged_invalid}
-use Rattle.mar_model.specs.Judge.{Completes, Judges}
+use Rattle.mar_model.specs.Judge.{Completes, Judges, Reading}
 use Rattle.mar_model.specs.Messages.{report_finalization}
 use Rattle.mar_model.specs.Step.{Report, Made, nothing_made, handed_over, new_tip, Advances, Steps, with_sync}
 use Rattle.mar_model.specs.Lives.{CutsEvent, BackedBy, Picks, processed_at, Opens, IsGoodEnded}
@@ -195,8 +195,8 @@ unbacked_end e sure meta good = refuse (subst (λ s. AllByRecursion {X = Pair} (
 -- A PEER'S BLOCK UNVERIFIED, OR INVALID TO ALL
 
 -- a body that answers Invalid to bytes that are what was asked for
-invalid_to_all : (key : Key) (bytes : List ℕ) (annotations : List Annotation) (right answer : Answer) → Completes config key bytes annotations right → Judges config key bytes annotations answer judged_invalid → ⊥
-invalid_to_all key bytes annotations right answer completes judges = judges.2 right completes
+invalid_to_all : (reading : Reading) (key : Key) (bytes : List ℕ) (annotations : List Annotation) (right answer : Answer) → Completes reading config key bytes annotations right → Judges reading config key bytes annotations answer judged_invalid → ⊥
+invalid_to_all reading key bytes annotations right answer completes judges = judges.2 right completes
 
 -- a body that stores a block of height 7 at height 1
 unverified : (n : Node) (b : Block) → b.height ≡ 7 → n.blocks.held ≡ record { height = 1; value = b } ∷ [] → IsGood config chain n → ⊥
