@@ -23,6 +23,7 @@ module _ {D B N F : Type 0} (digest : D → List ℕ) (block : B → Block) (not
   told (message.Proposed t r peers b) = inr tt
   told (message.Prepared r peers b) = inr tt
   told (message.Certified t r b) = inr tt
+  told (message.HintFinalized h targets) = inr tt
   told (message.Notarization n) = inr tt
   told (message.Finalization f) = inl (finalization f, refl)
   told (message.Certification n) = inr tt

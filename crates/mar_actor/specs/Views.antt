@@ -9,7 +9,7 @@ use Rattle.mar_types.specs.Round.{Round}
 use Rattle.mar_block.specs.declared.recipients.Recipients.{Recipients}
 use Rattle.mar_inbox.specs.declared.Message.{Message}
 use Rattle.mar_inbox.specs.declared.Message.TheVariants as message
-use Rattle.mar_model.specs.Messages.{certify, prepared, proposed, report_certification, report_finalization, report_notarization, verified}
+use Rattle.mar_model.specs.Messages.{certify, hint_finalized, prepared, proposed, report_certification, report_finalization, report_notarization, verified}
 use Rattle.mar_model.specs.Event.{Event, ack_dropped, ack_given, life_started, message_told, sync_finished}
 use Rattle.mar_model.specs.Faults.{Begin, from_genesis}
 use Rattle.mar_model.specs.Step.{Report, new_tip, handed_over}
@@ -78,6 +78,7 @@ told_of digest block notarization finalization (told.Verified t r b) = message_t
 told_of digest block notarization finalization (told.Proposed t r peers b) = message_told (Some t) (proposed r (peers_of peers) (block b))
 told_of digest block notarization finalization (told.Prepared r peers b) = message_told None (prepared r (peers_of peers) (block b))
 told_of digest block notarization finalization (told.Certified t r b) = message_told (Some t) (certify r (block b))
+told_of digest block notarization finalization (told.Hint h targets) = message_told None (hint_finalized h targets)
 
 -- what the application is told, by what digests are as bytes and blocks as plain data
 abbrev pub report_of : {D B : Type 0} → (D → List ℕ) → (B → Block) → Update D B → Report

@@ -24,6 +24,8 @@
 //!   nothing goes by it yet.
 //! - **Sends.** A proposed or a prepared block is handed to the buffer, which sends it, once and in its own step. A prepared one
 //!   is not kept and nobody answered; a proposed one is sent before it is kept.
+//! - **Hints.** The finalization of a height that some peers are said to hold is asked of these, unless it is stored or the height
+//!   is processed.
 //! - **An end says why.** A step that can't go on hands back what is left of the stores, and its fault names the store that
 //!   failed or the value that it could not take. Whatever was durable is still there, and the next opening goes on from it.
 //!

@@ -8,7 +8,7 @@ ghost use Rattle.mar_actor.specs.Views.{message_first, message_sendings, told_fi
 
 use mar_block::Recipients;
 use mar_inbox::{Message, Query};
-use mar_types::{Participant, Round};
+use mar_types::{Height, NonEmptyVec, Participant, Round};
 
 /// What a caller tells, or asks under a ticket.
 #[derive(Drop)]
@@ -38,6 +38,7 @@ pub(crate) enum Told<D, B, N, F> {
         round: Round,
         block: B,
     },
+    Hint(Height, NonEmptyVec<Participant>),
 }
 
 /// What a message tells or asks.
@@ -49,6 +50,7 @@ pub(crate) fn told_by<D, B, N, F>(message: Message<D, B, N, F>) -> Told<D, B, N,
     ensures first { (block : B → Block) → told_first block result ≡ message_first block message }
 {
     match message {
+        Message::HintFinalized { height, targets } => Told::Hint(height, targets),
         Message::Notarization(notarization) => Told::Notarization(notarization),
         Message::Certification(certification) => Told::Certification(certification),
         Message::Finalization(finalization) => Told::Reported(finalization),

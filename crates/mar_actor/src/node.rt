@@ -33,7 +33,7 @@ use crate::reporter::Reporter;
 use crate::take::take;
 use mar_block::{Buffer, Variant};
 use mar_inbox::{AnswerTable, Value};
-use mar_key::Resolver;
+use mar_key::TargetedResolver;
 use mar_life::Stores;
 use mar_model::{Ended, Holds, HoldsNotarizations, StoreName};
 use mar_parts::Certified;
@@ -79,7 +79,7 @@ impl<V: Variant, S: HoldsNotarizations<V>, P: Drop, E: Epocher> Node<V, S, P, E>
     /// What a step may store is small: at most 1,048,576 bytes each.
     /// The application is told of the event's own tip first, at most one, then of the tips of blocks that are filled in,
     /// by a start or a reported finalization alone, and then of the blocks that are handed over.
-    pub fn step<B: Buffer<V>, R: Resolver<V::Commitment>, A: Reporter<V>>(
+    pub fn step<B: Buffer<V>, R: TargetedResolver<V::Commitment>, A: Reporter<V>>(
         self,
         alloc: Global,
         event: Event<V::Digest, V::Block, S::Notarization, S::Finalization>,

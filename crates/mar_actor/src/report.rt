@@ -233,7 +233,8 @@ fn tell_tip<V: Variant, A: Reporter<V>>(
     digest: V::Digest,
     application: &mut A,
 ) -> Result<(), Fault<V::Commitment>>
-    ensures runs { (held : Held) (life : PlainWindow) (standing : Standing) (asks : Option (List Call)) (sends : Option (List Sent)) (answers : List TicketAnswer)
+    ensures runs { (held : Held) (life : PlainWindow) (standing : Standing) (asks : Option (List Call))
+        (sends : Option (List Sent)) (answers : List TicketAnswer)
         → Does V.inner (fault_of V.Commitment.bytes) (does (says (tell_act round height (V.Digest.bytes digest))) ∷ [])
         (at_tip held life tip.old standing (heard_with (A.told application.old) asks sends answers))
         (at_tip held life tip.new standing (heard_with (A.told application.new) asks sends answers)) result }

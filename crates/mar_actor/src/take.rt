@@ -34,9 +34,10 @@ use crate::sync::finish;
 use mar_block::{Buffer, Variant};
 use mar_cert::CommitsTo;
 use mar_inbox::{AnswerTable, Value, answer};
-use mar_key::Resolver;
+use mar_key::TargetedResolver;
 use mar_model::{Fault, HoldsNotarizations};
 use mar_parts::{Certified, Mark};
+use mar_rules::hint;
 use mar_types::Epocher;
 use std::alloc::Global;
 
@@ -57,7 +58,7 @@ where
     S: HoldsNotarizations<V>,
     E: Epocher,
     B: Buffer<V>,
-    R: Resolver<V::Commitment>,
+    R: TargetedResolver<V::Commitment>,
     A: Reporter<V>,
     requires intact { (S.held stores.old).intact ≡ true }
     requires blocks { IsNested (S.held stores.old).blocks }
@@ -142,6 +143,9 @@ where
                 round,
                 block,
             } => certify::<V, S>(stores, ticket, round, block, answers),
+            Told::Hint(height, targets) => {
+                hint::<V, S, R>(alloc, stores, height, targets.as_slice(), resolver)
+            }
         },
         Event::Sync(ticket) => {
             finish::<V, S, A>(stores, &mut life.window, ticket, answers, application)

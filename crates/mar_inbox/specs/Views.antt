@@ -10,7 +10,7 @@ use Rattle.mar_block.specs.declared.recipients.Recipients.TheVariants.{All, Some
 use Rattle.mar_store.specs.declared.identifier.Identifier.{Identifier as StoreIdentifier}
 use Rattle.mar_store.specs.declared.identifier.Identifier.TheVariants.{Index, Key}
 use Rattle.mar_model.specs.Answers.{Sent, Value as PlainValue, anchor_value, bytes_value, info_value, no_value, processed_value, sync_value, true_value}
-use Rattle.mar_model.specs.Messages.{Identifier as PlainIdentifier, Message as PlainMessage, Peers, all_peers, certify, get_anchor, get_block, get_finalization, get_info, get_processed, get_verified, latest, of_digest, of_height, prepared, proposed, report_certification, report_finalization, report_notarization, some_peers, verified}
+use Rattle.mar_model.specs.Messages.{Identifier as PlainIdentifier, Message as PlainMessage, Peers, all_peers, certify, get_anchor, get_block, get_finalization, get_info, get_processed, get_verified, hint_finalized, latest, of_digest, of_height, prepared, proposed, report_certification, report_finalization, report_notarization, some_peers, verified}
 use Rattle.mar_inbox.specs.declared.identifier.Identifier.{Identifier}
 use Rattle.mar_inbox.specs.declared.identifier.Identifier.TheVariants as identifier
 use Rattle.mar_inbox.specs.declared.message.Message.{Message}
@@ -60,6 +60,7 @@ message_of digest plain notarization finalization (message.Verified t r b) = ver
 message_of digest plain notarization finalization (message.Proposed t r peers b) = proposed r (peers_of peers) (plain b)
 message_of digest plain notarization finalization (message.Prepared r peers b) = prepared r (peers_of peers) (plain b)
 message_of digest plain notarization finalization (message.Certified t r b) = certify r (plain b)
+message_of digest plain notarization finalization (message.HintFinalized h targets) = hint_finalized h targets
 message_of digest plain notarization finalization (message.Notarization n) = report_notarization (notarization n)
 message_of digest plain notarization finalization (message.Finalization f) = report_finalization (finalization f)
 message_of digest plain notarization finalization (message.Certification n) = report_certification (notarization n)

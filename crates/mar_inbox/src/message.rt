@@ -9,7 +9,7 @@ ghost use Rattle.mar_inbox.specs.Views.{message_of, ticket_of};
 
 use crate::identifier::Identifier;
 use mar_block::Recipients;
-use mar_types::{Height, Participant, Round};
+use mar_types::{Height, NonEmptyVec, Participant, Round};
 
 /// What a caller tells the actor or asks of it, with digests, blocks, notarizations and finalizations of the kinds `D`,
 /// `B`, `N` and `F`. A message that is answered has a ticket, under which its answer comes.
@@ -71,6 +71,12 @@ pub enum Message<D, B, N, F> {
         round: Round,
         block: B,
     },
+    /// These peers are said to hold the finalization of a height: it is asked of them, unless it is held here or the height
+    /// is processed.
+    HintFinalized {
+        height: Height,
+        targets: NonEmptyVec<Participant>,
+    },
     /// Consensus notarized a proposal.
     Notarization(N),
     /// Consensus finalized a proposal.
@@ -98,6 +104,7 @@ impl<D, B, N, F> Message<D, B, N, F> {
             | Message::Proposed { ticket, .. }
             | Message::Certified { ticket, .. } => Some(*ticket),
             Message::Prepared { .. }
+            | Message::HintFinalized { .. }
             | Message::Notarization(_)
             | Message::Finalization(_)
             | Message::Certification(_) => None,

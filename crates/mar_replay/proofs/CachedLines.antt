@@ -14,7 +14,7 @@ use Rattle.mar_model.specs.Event.{Effect, Event, effect_of, message_told}
 use Rattle.mar_model.specs.Faults.{Begin}
 use Rattle.mar_model.specs.Lives.{Finds, Picks, TakesUp}
 use Rattle.mar_model.specs.Node.{Ended, Node, write_count, AreBlocksOf, at_hand}
-use Rattle.mar_model.specs.Messages.{Message, certify, get_anchor, get_block, get_finalization, get_info, get_processed, get_verified, message_blocks, prepared, proposed, report_certification, report_finalization, report_notarization, verified}
+use Rattle.mar_model.specs.Messages.{Message, certify, get_anchor, get_block, get_finalization, get_info, get_processed, get_verified, hint_finalized, message_blocks, prepared, proposed, report_certification, report_finalization, report_notarization, verified}
 use Rattle.mar_model.specs.Promise.{told_blocks, Waiting, known_blocks, node_of}
 use Rattle.mar_model.specs.Step.{Made, Steps, with_sync}
 use Rattle.mar_model.proofs.CacheSteps.{with_cases}
@@ -145,6 +145,7 @@ module _ {P E : Type 0} (config : Config) (chain : Chain) (a : Seen P E) (buffer
   told_puts t (verified r b) built fx after x has = brought b x (verified_entry r b) has refl
   told_puts t (proposed r peers b) built fx after x has = brought b x (verified_entry r b) has refl
   told_puts t (prepared r peers b) built fx after x has = contains_none x has
+  told_puts t (hint_finalized h peers) built fx after x has = contains_none x has
   told_puts t (certify r b) built fx after x has = by (list_any (verified_at r b) after) has
     where
       by : (is_verified : Bool) → Contains (notarized_where is_verified r b) x → IsOneOf (b ∷ known_blocks chain n) x

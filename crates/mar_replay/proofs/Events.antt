@@ -24,6 +24,7 @@ module _ {D B N F : Type 0} (digest : D → List ℕ) (block : B → Block) (not
   no_parents (event.Message (message.Proposed t r peers b)) = refl
   no_parents (event.Message (message.Prepared r peers b)) = refl
   no_parents (event.Message (message.Certified t r b)) = refl
+  no_parents (event.Message (message.HintFinalized h targets)) = refl
   no_parents (event.Message (message.Notarization n)) = refl
   no_parents (event.Message (message.Finalization f)) = refl
   no_parents (event.Message (message.Certification n)) = refl

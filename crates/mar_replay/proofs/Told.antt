@@ -10,7 +10,7 @@ use Rattle.mar_model.specs.Answers.{Value, answers_of, to}
 use Rattle.mar_model.specs.Chain.{Chain}
 use Rattle.mar_model.specs.Config.{Config}
 use Rattle.mar_model.specs.Event.{effect_of, message_told}
-use Rattle.mar_model.specs.Messages.{Message, certify, close_ticket, get_anchor, get_block, get_finalization, get_info, get_processed, get_verified, message_blocks, prepared, proposed, report_certification, report_finalization, report_notarization, verified}
+use Rattle.mar_model.specs.Messages.{Message, certify, close_ticket, get_anchor, get_block, get_finalization, get_info, get_processed, get_verified, hint_finalized, message_blocks, prepared, proposed, report_certification, report_finalization, report_notarization, verified}
 use Rattle.mar_model.specs.Node.{Node}
 use Rattle.mar_model.specs.Promise.{node_of}
 use Rattle.mar_model.specs.Step.{Made, Steps}
@@ -56,6 +56,7 @@ module _ (config : Config) (chain : Chain) (seen : SeenNode) (buffer : List Bloc
       by (report_notarization f) read is = absurd cc
       by (report_certification f) read is = absurd cc
       by (prepared r peers b) read is = absurd cc
+      by (hint_finalized h peers) read is = absurd cc
       by x read is = absurd read
 
   answered : takes_ticket m ≡ true → (made : Made) (n' : Node) → Steps config chain asking (message_told (Some pending.next_answer) m ∷ []) made n' → still_unanswered made.answers [] (pending.next_answer ∷ []) ≡ []

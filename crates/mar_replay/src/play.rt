@@ -305,7 +305,8 @@ fn tell<H: ScriptHolds>(
     requires small_line { IsSmallLine (tell_line (plain_message message)) }
     requires small { AreSmall buffer.blocks }
     requires silent { made_in heard.old ≡ nothing_made }
-    ensures { (config : PlainConfig) → PlaysOrNot config (State.Running actor buffer pending) (tell_line (plain_message message)) (made_in heard.new) result.0 result.1 }
+    ensures { (config : PlainConfig) → PlaysOrNot config (State.Running actor buffer pending)
+        (tell_line (plain_message message)) (made_in heard.new) result.0 result.1 }
 {
     let mut message = message;
     set_ticket(&mut message, pending.next_answer);

@@ -1,3 +1,4 @@
+pub mod Hinted
 pub mod KeptFor
 pub mod Pruned
 pub mod Raised

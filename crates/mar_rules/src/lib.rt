@@ -4,6 +4,7 @@
 #![tactic(auto)]
 
 mod handing;
+mod hinting;
 mod keeping;
 mod notarizing;
 mod pruning;
@@ -11,6 +12,7 @@ mod raising;
 mod storing;
 
 pub use handing::{let_go, take_ready};
+pub use hinting::hint;
 pub use keeping::{keep_certified, keep_verified};
 pub use notarizing::{keep_notarization, keep_notarized};
 pub use raising::{note_round, process};

@@ -11,6 +11,7 @@ pub mod FirstWords
 pub mod Rows
 pub mod PeerWords
 pub mod BlockWords
+pub mod HintWords
 pub mod LineEnds
 pub mod ReadSteps
 pub mod FirstOutside

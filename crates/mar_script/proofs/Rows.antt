@@ -13,7 +13,7 @@ use Rattle.mar_cert.specs.declared.MockCertificate.{MockCertificate}
 use Rattle.mar_block.specs.declared.EmptyBlock.{EmptyBlock}
 use Rattle.mar_inbox.specs.declared.Message.{Message as MessageCode}
 use Rattle.mar_model.specs.Faults.{StoreName, block_store, cache_store, cert_store, from_genesis, meta_store}
-use Rattle.mar_model.specs.Messages.{certify, get_anchor, get_block, get_finalization, get_info, get_processed, get_verified, prepared, proposed, report_certification, report_finalization, report_notarization, verified}
+use Rattle.mar_model.specs.Messages.{certify, get_anchor, get_block, get_finalization, get_info, get_processed, get_verified, hint_finalized, prepared, proposed, report_certification, report_finalization, report_notarization, verified}
 use Rattle.mar_model.specs.Views.{store_name_of}
 use Rattle.mar_model.specs.declared.StoreName.{StoreName as StoreNameCode}
 use Rattle.mar_model.specs.declared.StoreName.TheVariants as code
@@ -59,6 +59,7 @@ line_row bytes (tell_line (verified r b)) built is = inl (by (kind.Tell told.Ver
 line_row bytes (tell_line (certify r b)) built is = inl (by (kind.Tell told.Certified) (r, b) refl)
 line_row bytes (tell_line (proposed r peers b)) built is = inl (by (kind.Tell told.Proposed) (r, peers, b) refl)
 line_row bytes (tell_line (prepared r peers b)) built is = inl (by (kind.Tell told.Prepared) (r, peers, b) refl)
+line_row bytes (tell_line (hint_finalized h peers)) built is = inl (by (kind.Tell told.Hint) (h, peers) refl)
 line_row bytes (sync_line t) built is = inl (by kind.Sync t refl)
 line_row bytes (ack_line t) built is = inl (by kind.Ack t refl)
 line_row bytes (drop_line t) built is = inl (by kind.Drop t refl)

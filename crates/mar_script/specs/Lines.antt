@@ -1,10 +1,11 @@
 -- Lines of the code as plain data, which bytes spell them, and what their first words tell.
 use Rattle.std.specs.List.{AllByRecursion, find, list_all}
 use Rattle.std.specs.Option.{option_map}
-use Rattle.std.specs.Prelude.{Bool, Contains, IfOk, List, Option, Result, Some, [], codes, decimal, false, map, nat_lt, refl, true, ℕ, ⊤, ◌++◌, ◌∷◌, ◌≡◌}
+use Rattle.std.specs.Prelude.{Bool, Contains, IfOk, List, Option, Result, Some, [], codes, decimal, false, length, map, nat_lt, refl, true, ℕ, ⊤, ◌++◌, ◌∷◌, ◌≡◌, ◌≤◌}
 use Rattle.std.specs.Str.{bytes_eq}
 use Rattle.sha2.specs.Sha256.{sha256}
 use Rattle.mar_types.specs.Round.{IsRound, Round}
+use Rattle.mar_types.specs.Varint.{IsNumber}
 use Rattle.mar_types.specs.declared.Sha256.{Sha256}
 use Rattle.mar_types.specs.declared.Sha256Digest.{Sha256Digest}
 use Rattle.mar_cert.specs.Finalization.{Finalization}
@@ -21,13 +22,14 @@ use Rattle.mar_block.specs.declared.recipients.Sent.{Sent as SentCode}
 use Rattle.mar_inbox.specs.Views.{message_of, peers_of, sent_of}
 use Rattle.mar_inbox.specs.declared.Message.{Message as MessageCode}
 use Rattle.mar_model.specs.Answers.{Sent}
-use Rattle.mar_model.specs.Messages.{Identifier, Message, Peers, certify, get_anchor, get_block, get_finalization, get_info, get_processed, get_verified, prepared, proposed, report_certification, report_finalization, report_notarization, verified}
+use Rattle.mar_model.specs.Messages.{Identifier, Message, Peers, certify, get_anchor, get_block, get_finalization, get_info, get_processed, get_verified, hint_finalized, prepared, proposed, report_certification, report_finalization, report_notarization, verified}
 use Rattle.mar_model.specs.Faults.{StoreName, from_genesis}
 use Rattle.mar_model.specs.Views.{store_name_of}
 use Rattle.mar_model.specs.declared.StoreName.{StoreName as StoreNameCode}
-use Rattle.mar_script.specs.Script.{Field, IsBuilt, IsBuiltMessage, IsField, IsPeers, Line, ack_line, as_block, as_count, as_finalization, as_identifier, as_key, as_letters, as_number, as_recipients, as_store, buffer_line, crash_line, drop_line, fail_line, field_text, hex, in_round, line_bytes, line_fields, message_fields, open_line, peers_text, sentence, sync_line, tell_line}
+use Rattle.mar_script.specs.Script.{ArePeers, Field, IsBuilt, IsBuiltMessage, IsField, IsPeers, Line, ack_line, as_block, as_count, as_finalization, as_identifier, as_key, as_letters, as_number, as_peers, as_recipients, as_store, buffer_line, comma_numbers, crash_line, drop_line, fail_line, field_text, hex, in_round, line_bytes, line_fields, message_fields, open_line, peers_text, sentence, sync_line, tell_line}
 use Rattle.mar_script.specs.Words.{Yields}
 use Rattle.mar_script.specs.declared.block_line.RoundBlock.{RoundBlock}
+use Rattle.mar_script.specs.declared.hint_line.Hint.{Hint}
 use Rattle.mar_script.specs.declared.line.Line.{Line as LineCode}
 use Rattle.mar_script.specs.declared.line.Line.TheVariants as line
 use Rattle.mar_script.specs.declared.words.ParseError.{ParseError}
@@ -127,6 +129,16 @@ IsSentBlock v = IsRound v.0 × IsPeers v.1 × IsBlock v.2
 abbrev pub sent_block_text : Round × Peers × Block → List ℕ
 sent_block_text v = behind_round v.0 (peers_text v.1 ++ 32 ∷ hex v.2.encoded)
 
+-- a hint: a height, and the peers that are said to hold its finalization
+abbrev pub hint_of : Hint → ℕ × List ℕ
+hint_of v = (v.height, v.targets)
+
+abbrev pub IsHint : ℕ × List ℕ → Type 0
+IsHint v = IsNumber v.0 × ArePeers v.1 × (1 ≤ length v.1)
+
+abbrev pub hint_text : ℕ × List ℕ → List ℕ
+hint_text v = decimal v.0 ++ 32 ∷ comma_numbers v.1
+
 -- ROWS
 
 -- neither a space nor a line's end is in it
@@ -214,6 +226,16 @@ message_row told.Verified = of_round_block (codes "verified") verified (λ r b. 
 message_row told.Certified = of_round_block (codes "certified") certify (λ r b. tt) (λ r b. refl)
 message_row told.Proposed = of_sent_block (codes "proposed") proposed (λ r peers b. tt) (λ r peers b. refl)
 message_row told.Prepared = of_sent_block (codes "prepared") prepared (λ r peers b. tt) (λ r peers b. refl)
+message_row told.Hint = record {
+  word = codes "hint";
+  Value = ℕ × List ℕ;
+  fields = λ v. as_number v.0 ∷ as_peers v.1 ∷ [];
+  text = λ v. refl;
+  ink = λ v. refl;
+  make = λ v. hint_finalized v.0 v.1;
+  read = λ v. tt;
+  spelled = λ v. refl;
+}
 
 -- a message as a line
 abbrev pub told_row : MessageRow → LineRow

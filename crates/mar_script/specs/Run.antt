@@ -28,7 +28,7 @@ use Rattle.mar_script.specs.Refused.{IsRefused, IsUnended, max_lines}
 use Rattle.mar_script.specs.Script.{IsLine, IsSettings, Line, Settings, ack_line, ask_line, bufclose_line, buffer_line, config_of, crash_line, drop_line, fail_line, line_bytes, open_line, peer_line, put_line, script_bytes, serve_line, settings_bytes, sync_line, take_line, tell_line}
 use Rattle.mar_script.specs.Text.{Done, Output, Remark, State, remark_empty, remark_ignored, remark_ok, remark_output, remark_overflowed, remark_running, remark_stopped, remark_unasked, running, silent_output, stopped, text}
 use Rattle.mar_inbox.specs.Policy.{Feedback, after_enqueue, after_take, drops_closed, feedback, feedback_accepted, feedback_overflowed, feedback_refused}
-use Rattle.mar_model.specs.Judge.{Delivery, Reads, in_turn, judged_of, serve_events}
+use Rattle.mar_model.specs.Judge.{Delivery, Reads, in_turn, judged_of, mock_reading, serve_events}
 use Rattle.mar_script.specs.declared.status.Why.{Why}
 
 -- LINES
@@ -142,7 +142,7 @@ produced_answers (deliver t key bytes annotations ∷ messages) n = produced_ans
 -- the first messages that are queued, those of closed tickets counted and left out
 abbrev pub ServeDone : Config → Chain → Node → List PeerMessage → Output → State → Type 0
 ServeDone config chain n messages out after =
-    (ds : List (Delivery config)) × Reads config messages ds × EventsDone config chain n (serve_events messages ds) (map judged_of (in_turn ds)) (produced_answers messages) out after
+    (ds : List (Delivery (mock_reading config) config)) × Reads (mock_reading config) config messages ds × EventsDone config chain n (serve_events messages ds) (map judged_of (in_turn ds)) (produced_answers messages) out after
 
 -- a closing of a ticket that has an answer or a closing
 abbrev pub closes_nothing : Node → Message → Bool

@@ -224,7 +224,6 @@ IsField n as_none = ⊥
 abbrev pub IsBuiltMessage : Message → Type 0
 IsBuiltMessage (set_floor f) = ⊥
 IsBuiltMessage (prune_below h) = ⊥
-IsBuiltMessage (hint_finalized h peers) = ⊥
 IsBuiltMessage (hint_notarized r d) = ⊥
 IsBuiltMessage (subscribe_digest d fallback) = ⊥
 IsBuiltMessage (subscribe_commitment c fallback) = ⊥

@@ -5,6 +5,7 @@ mod answers;
 mod asks;
 mod block_line;
 mod certificate_line;
+mod hint_line;
 mod line;
 mod lists;
 mod message_line;

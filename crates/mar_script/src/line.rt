@@ -49,7 +49,7 @@ enum Kind {
 }
 
 // The first word of each kind of line.
-const KINDS: [(&[u8], Kind); 18] = [
+const KINDS: [(&[u8], Kind); 19] = [
     (b"open", Kind::Open),
     (b"buffer", Kind::Buffer),
     (b"final", Kind::Tell(MessageKind::Final)),
@@ -63,6 +63,7 @@ const KINDS: [(&[u8], Kind); 18] = [
     (b"certified", Kind::Tell(MessageKind::Certified)),
     (b"proposed", Kind::Tell(MessageKind::Proposed)),
     (b"prepared", Kind::Tell(MessageKind::Prepared)),
+    (b"hint", Kind::Tell(MessageKind::Hint)),
     (b"sync", Kind::Sync),
     (b"ack", Kind::Ack),
     (b"drop", Kind::Drop),

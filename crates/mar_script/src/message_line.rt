@@ -7,6 +7,7 @@ ghost use Rattle.mar_script.specs.Script.{IsBuiltMessage};
 
 use crate::block_line::{round_and_block, sent_block};
 use crate::certificate_line::finalization_of;
+use crate::hint_line::hinted;
 use crate::query_line::{height, identifier, round};
 use crate::words::ParseError;
 use mar_block::EmptyBlock;
@@ -37,6 +38,7 @@ pub enum MessageKind {
     Certified,
     Proposed,
     Prepared,
+    Hint,
 }
 
 /// The message of this kind, with these bytes behind its first word and a space.
@@ -89,6 +91,10 @@ pub fn parse_message(
             recipients: sent.recipients,
             block: sent.block,
         }),
+        MessageKind::Hint => hinted(alloc, rest).map(|hint| Message::HintFinalized {
+            height: hint.height,
+            targets: hint.targets,
+        }),
     }
 }
 
@@ -109,6 +115,7 @@ pub fn set_ticket(message: &mut ScriptMessage, next: u64)
         Message::Proposed { ticket, .. } => *ticket = next,
         Message::Certified { ticket, .. } => *ticket = next,
         Message::Prepared { .. } => {}
+        Message::HintFinalized { .. } => {}
         Message::Notarization(_) => {}
         Message::Finalization(_) => {}
         Message::Certification(_) => {}

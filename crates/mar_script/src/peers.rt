@@ -29,8 +29,8 @@ pub fn recipients(alloc: Global, word: &[u8]) -> Result<Recipients<Participant>,
     }
 }
 
-// The members that a word spells with a comma between, at least one, all different.
-fn members(alloc: Global, word: &[u8]) -> Result<Vec<Participant>, ParseError>
+/// The members that a word spells with a comma between, at least one, all different.
+pub fn members(alloc: Global, word: &[u8]) -> Result<Vec<Participant>, ParseError>
     ensures are_peers { IfOk result (λ ms. ArePeers ms.items) }
     ensures found { IfOk result (λ ms. word.now ≡ comma_numbers ms.items) }
     ensures only { (ps : List ℕ) → ArePeers ps → 0 < length ps → word.now ≡ comma_numbers ps → Yields (λ ms. ms.items ≡ ps) result }

@@ -40,6 +40,7 @@ the lines of a script behind its settings, `config` and eight numbers:
                       PEERS is all, -, or members with commas between
   prepared E V PEERS HEX
                       sends a block in the round of epoch E and view V to PEERS
+  hint H PEERS        PEERS, at least one, hold the finalization of height H: it is asked of them where it is wanted
   fail STORE N        the Nth counted call of this store from here on fails: blocks, certs, meta or cache
   crash N             ends the life; of what a crash may leave, the next opening finds what N picks
 

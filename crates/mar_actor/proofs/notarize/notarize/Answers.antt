@@ -5,7 +5,7 @@ use Rattle.mar_model.specs.Plans.{found_by, found_of}
 use Rattle.mar_model.specs.Event.{message_told}
 use Rattle.mar_model.specs.Messages.{report_notarization}
 use Rattle.mar_model.proofs.Doing.{cache-done, cache-failed}
-use Rattle.mar_model.proofs.Found.{notarized_finds}
+use Rattle.mar_model.proofs.CertifiedBlocks.{notarized_finds}
 use Rattle.mar_actor.proofs.notarize.notarize.Goals as goal
 
 pub keep_found-requires-clause-intact : goal.keep_found-requires-clause-intact

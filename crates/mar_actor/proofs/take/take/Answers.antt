@@ -164,6 +164,26 @@ returns-in-Verified g c =
       unlearned = rw told_is (λ query. absurd cc);
     }
 
+pub returns-in-Hint : goal.returns-in-Hint
+returns-in-Hint g c =
+    let told_is = event_is g.V.Digest.Named.bytes g.V.Variant.plain g.S.Notarization.AsFinalization.plain g.S.Finalization.AsFinalization.plain c.args.event _ _ _ c.in-Message.is (c.told_by.ensures.told g.V.Digest.Named.bytes g.V.Variant.plain g.S.Notarization.AsFinalization.plain g.S.Finalization.AsFinalization.plain) c.in-Hint.is in
+    let sends_are = sendings_are g.V.Variant.plain c.args.event _ _ _ c.in-Message.is (c.told_by.ensures.sends g.V.Variant.plain) c.in-Hint.is in
+    let firsts_are_so = firsts_are g.V.Variant.plain c.args.event _ _ _ c.in-Message.is (c.told_by.ensures.first g.V.Variant.plain) c.in-Hint.is in
+    record {
+      runs = rw told_is (λ standing. found_nothing _ _ _ _ _ _ _ (rw c.as_slice.ensures at c.hint.ensures.runs _ _ _ _ _));
+      given = rw (← c.life.view_is) (refl, refl);
+      unanswered = unanswered-err _ c.hint.result;
+      sends = rw sends_are (unsent-ok _ c.hint.result);
+      unsent = rw firsts_are_so (front_none _ _ c.hint.result (unsent-err _ c.hint.result));
+      blocks = refl;
+      notifies = refl;
+      buffer = rw sends_are (λ none. refl);
+      idle = rw told_is (λ t is closed other. absurd cc);
+      notes = rw told_is (unnoted g.V.Commitment.Named.bytes c.args.certified.now c.hint.result);
+      min = still_least c.args.certified.now.min c.hint.result;
+      unlearned = rw told_is (λ query. absurd cc);
+    }
+
 pub returns-in-Proposed : goal.returns-in-Proposed
 returns-in-Proposed g c =
     let told_is = event_is g.V.Digest.Named.bytes g.V.Variant.plain g.S.Notarization.AsFinalization.plain g.S.Finalization.AsFinalization.plain c.args.event _ _ _ c.in-Message.is (c.told_by.ensures.told g.V.Digest.Named.bytes g.V.Variant.plain g.S.Notarization.AsFinalization.plain g.S.Finalization.AsFinalization.plain) c.in-Proposed.is in

@@ -1,7 +1,7 @@
 use Rattle.std.proofs.Common.{ap, rules, ◌≡◌}
 use Rattle.mar_inbox.specs.Views.{identifier_of}
 use Rattle.mar_inbox.specs.declared.Message.TheVariants as message
-use Rattle.mar_script.specs.Lines.{IsRoundBlock, IsSentBlock, message_row, plain_finalization, plain_message, round_block_of, sent_block_of}
+use Rattle.mar_script.specs.Lines.{IsHint, IsRoundBlock, IsSentBlock, hint_of, message_row, plain_finalization, plain_message, round_block_of, sent_block_of}
 use Rattle.mar_script.specs.declared.message_line.MessageKind.TheVariants as told
 use Rattle.mar_script.proofs.Rows.{made_by, reads}
 use Rattle.mar_script.proofs.message_line.parse_message.Goals as goal
@@ -38,3 +38,6 @@ returns-in-Proposed c = rw c.in-Proposed.is (made_by (message_row told.Proposed)
 
 pub returns-in-Prepared : goal.returns-in-Prepared
 returns-in-Prepared c = rw c.in-Prepared.is (made_by (message_row told.Prepared) sent_block_of (reads {Is = IsSentBlock} (λ v is. (is.0.0, (is.0.1, (is.1, (is.2, tt))))) (λ v are. ((are.0, are.1.0), are.1.1.0, are.1.1.1.0)) c.sent_block-in-Prepared.ensures.is c.sent_block-in-Prepared.ensures.found c.sent_block-in-Prepared.ensures.only) c.map-in-Prepared.ensures.cases (λ x y is. let same : y ≡ message.Prepared x.round x.recipients x.block = search rules in ap plain_message same))
+
+pub returns-in-Hint : goal.returns-in-Hint
+returns-in-Hint c = rw c.in-Hint.is (made_by (message_row told.Hint) hint_of (reads {Is = IsHint} (λ v is. (is.0, ((is.1, is.2), tt))) (λ v are. (are.0, are.1.0.0, are.1.0.1)) c.hinted.ensures.is c.hinted.ensures.found c.hinted.ensures.only) c.map-in-Hint.ensures.cases (λ x y is. let same : y ≡ message.HintFinalized x.height x.targets = search rules in ap plain_message same))
