@@ -2,9 +2,10 @@
 ghost use Rattle.mar_cert.specs.Finalization.{finalization_bytes};
 ghost use Rattle.mar_store.specs.Sizes.{IsSmall};
 
-use crate::life::{Around, begun, step};
-use crate::service::Handed;
-use mar_actor::{Ended, Event, Fault, HoldsNotarizations};
+use crate::closed::Why;
+use crate::life::{Around, End, Left, acknowledged, begun, crashed, step};
+use crate::service::Lived;
+use mar_actor::{Event, HoldsNotarizations};
 use mar_block::StandardBlocks;
 use mar_cert::CommitsTo;
 use mar_inbox::{Identifier, Message, Standing, Value};
@@ -23,44 +24,45 @@ pub(crate) struct Told<F: CommitsTo<Sha256Digest>> {
     ghost small_third: { IsSmall (finalization_bytes (F.plain third)) },
 }
 
-/// What both lives came to: what the service was handed, how many of that in the first, whether that one owed a durable
-/// block, and the newest finalized height.
+/// What both lives came to: whether the first one owed a durable block as it crashed, and the newest finalized height that
+/// the second one told.
 #[derive(Drop)]
 pub(crate) struct Outcome {
-    pub(crate) handed: Vec<Handed>,
-    pub(crate) before: usize,
+    pub(crate) first: Lived,
     pub(crate) is_owed: bool,
+    pub(crate) second: Lived,
     pub(crate) newest: Option<u64>,
 }
 
-// A life in which blocks 1 and 2 are finalized and handed over. A crash ends it before block 2 is acknowledged. Says beside
-// what is left whether block 2 was durable and owed.
+// A life in which blocks 1 and 2 are finalized and handed over. A crash ends it before block 2 is acknowledged, though the
+// ledger has it. Says beside that whether block 2 was durable and owed.
 fn first_life<S: HoldsNotarizations<StandardBlocks>>(
-    nothing: S::Ruins,
+    nothing: Left<S::Ruins>,
     first: S::Finalization,
     second: S::Finalization,
     around: &mut Around<S::Finalization>,
-) -> Result<(S::Ruins, bool), Ended<StandardBlocks, S>>
+) -> Result<(Lived, bool, Left<S::Ruins>), End<S::Ruins>>
     requires first { IsSmall (finalization_bytes (S.Finalization.plain first)) }
     requires second { IsSmall (finalization_bytes (S.Finalization.plain second)) }
 {
     let life = begun::<S>(nothing, around);
-    let life = step::<S>(life, Event::Ack(0), around);
+    let life = acknowledged::<S>(life, around);
     let life = step::<S>(life, Event::Message(Message::Finalization(first)), around);
     let life = step::<S>(life, Event::Sync(0), around);
-    let life = step::<S>(life, Event::Ack(1), around);
+    let life = acknowledged::<S>(life, around);
     let life = step::<S>(life, Event::Message(Message::Finalization(second)), around);
-    let node = step::<S>(life, Event::Sync(1), around)?;
-    let is_owed = node.finished(1) & node.owes_ack(2);
-    Ok((node.wreck(), is_owed))
+    let living = step::<S>(life, Event::Sync(1), around)?;
+    let is_owed = living.node.finished(1) & living.node.owes_ack(2);
+    let (lived, left) = crashed::<S>(living);
+    Ok((lived, is_owed, left))
 }
 
 // A life over what that one left. Block 2 is handed over again, and block 3 after it; then someone asks for the newest.
 fn second_life<S: HoldsNotarizations<StandardBlocks>>(
-    left: S::Ruins,
+    left: Left<S::Ruins>,
     third: S::Finalization,
     around: &mut Around<S::Finalization>,
-) -> Result<S::Ruins, Ended<StandardBlocks, S>>
+) -> Result<(Lived, Left<S::Ruins>), End<S::Ruins>>
     requires third { IsSmall (finalization_bytes (S.Finalization.plain third)) }
 {
     let query = Message::GetInfo {
@@ -68,11 +70,12 @@ fn second_life<S: HoldsNotarizations<StandardBlocks>>(
         identifier: Identifier::Latest,
     };
     let life = begun::<S>(left, around);
-    let life = step::<S>(life, Event::Ack(0), around);
+    let life = acknowledged::<S>(life, around);
     let life = step::<S>(life, Event::Message(Message::Finalization(third)), around);
     let life = step::<S>(life, Event::Sync(0), around);
-    let node = step::<S>(life, Event::Message(query), around)?;
-    Ok(node.wreck())
+    let life = acknowledged::<S>(life, around);
+    let living = step::<S>(life, Event::Message(query), around)?;
+    Ok(crashed::<S>(living))
 }
 
 // The height that was answered under ticket 0.
@@ -85,30 +88,29 @@ fn newest<F: Drop>(around: &Around<F>) -> Option<u64> {
 
 /// Both lives: what they came to, or why one ended, and beside it what they leave.
 pub(crate) fn lives<S: HoldsNotarizations<StandardBlocks>>(
-    nothing: S::Ruins,
+    nothing: Left<S::Ruins>,
     told: Told<S::Finalization>,
-) -> (Result<Outcome, Fault<Sha256Digest>>, S::Ruins) {
+) -> (Result<Outcome, Why>, Left<S::Ruins>) {
     let Told {
         first,
         second,
         third,
         mut around,
     } = told;
-    let (left, is_owed) = match first_life::<S>(nothing, first, second, &mut around) {
+    let (first, is_owed, left) = match first_life::<S>(nothing, first, second, &mut around) {
         Ok(lived) => lived,
-        Err(ended) => return (Err(ended.fault), ended.ruins),
+        Err(end) => return (Err(end.why), end.left),
     };
-    let before = around.service.handed.len();
     match second_life::<S>(left, third, &mut around) {
-        Ok(left) => {
+        Ok((second, left)) => {
             let outcome = Outcome {
-                newest: newest(&around),
-                handed: around.service.handed,
-                before,
+                first,
                 is_owed,
+                second,
+                newest: newest(&around),
             };
             (Ok(outcome), left)
         }
-        Err(ended) => (Err(ended.fault), ended.ruins),
+        Err(end) => (Err(end.why), end.left),
     }
 }
