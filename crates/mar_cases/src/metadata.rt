@@ -37,7 +37,7 @@ pub trait Numbers: Store {
         ensures { IfOk result (λ s. Self.changed s ≡ []) };
 }
 
-/// Two keys in one batch, and both changed in another.
+/// Two keys in one batch, and both changed in another. No clause says what is left: the cases that call it look at that.
 pub fn two_batches<S: Numbers>(store: S) -> Result<S, Lost<S::Wreck>>
     requires { S.changed store ≡ [] }
 {

@@ -188,8 +188,8 @@ impl<A: EpochArchives, D: EpochArchivesDepot<A::Wreck>> DepotEpochs<A, D> {
             (⟦<DepotEpochs<A, D> as Epochs>⟧.states self)) (⟦<DepotEpochsWreck<A, D> as EpochsRuin>⟧.left (wreck_of l))) }
         ensures picked { IfOk result (λ s. PicksEpoch (⟦<DepotEpochs<A, D> as Epochs>⟧.picks self) (state_under A.Wreck.left (D.names self.depot epoch))
             (⟦<DepotEpochs<A, D> as Epochs>⟧.states s epoch) × (s.luck ≡ self.luck)) }
-        ensures counts { CountsAt ⟦<DepotEpochs<A, D> as Epochs>⟧.failures ⟦<DepotEpochsWreck<A, D> as EpochsRuin>⟧.failures epoch (count_under A.Wreck.faults (D.names self.depot epoch))
-            (⟦<DepotEpochs<A, D> as Epochs>⟧.failures self) result }
+        ensures counts { CountsAt ⟦<DepotEpochs<A, D> as Epochs>⟧.failures ⟦<DepotEpochsWreck<A, D> as EpochsRuin>⟧.failures epoch
+            (count_under A.Wreck.faults (D.names self.depot epoch)) (⟦<DepotEpochs<A, D> as Epochs>⟧.failures self) result }
         ensures calm { MatchResult result
             (λ s. ⟦<DepotEpochs<A, D> as Epochs>⟧.calm s ≡ ⟦<DepotEpochs<A, D> as Epochs>⟧.calm self)
             (λ l. ⟦<DepotEpochsWreck<A, D> as EpochsRuin>⟧.calm (wreck_of l) ≡ ⟦<DepotEpochs<A, D> as Epochs>⟧.calm self) }
@@ -237,8 +237,8 @@ impl<A: EpochArchives, D: EpochArchivesDepot<A::Wreck>> DepotEpochs<A, D> {
             (⟦<DepotEpochs<A, D> as Epochs>⟧.states self)) (⟦<DepotEpochsWreck<A, D> as EpochsRuin>⟧.left (wreck_of l))) }
         ensures picked { IfOk result (λ s. PicksEpoch (⟦<DepotEpochs<A, D> as Epochs>⟧.picks self) (state_under A.Wreck.left (D.names self.depot epoch))
             (⟦<DepotEpochs<A, D> as Epochs>⟧.states s epoch) × (s.luck ≡ self.luck)) }
-        ensures counts { CountsAt ⟦<DepotEpochs<A, D> as Epochs>⟧.failures ⟦<DepotEpochsWreck<A, D> as EpochsRuin>⟧.failures epoch (count_under A.Wreck.faults (D.names self.depot epoch))
-            (⟦<DepotEpochs<A, D> as Epochs>⟧.failures self) result }
+        ensures counts { CountsAt ⟦<DepotEpochs<A, D> as Epochs>⟧.failures ⟦<DepotEpochsWreck<A, D> as EpochsRuin>⟧.failures epoch
+            (count_under A.Wreck.faults (D.names self.depot epoch)) (⟦<DepotEpochs<A, D> as Epochs>⟧.failures self) result }
         ensures calm { MatchResult result
             (λ s. ⟦<DepotEpochs<A, D> as Epochs>⟧.calm s ≡ ⟦<DepotEpochs<A, D> as Epochs>⟧.calm self)
             (λ l. ⟦<DepotEpochsWreck<A, D> as EpochsRuin>⟧.calm (wreck_of l) ≡ ⟦<DepotEpochs<A, D> as Epochs>⟧.calm self) }
@@ -357,8 +357,8 @@ impl<A: EpochArchives, D: EpochArchivesDepot<A::Wreck>> Epochs for DepotEpochs<A
         ensures shut { is_opened (⟦<DepotEpochs<A, D> as Epochs>⟧.states self epoch) ≡ false → IfErr result (λ l. ⊥) }
         ensures settled { IsSettledEpoch change (⟦<DepotEpochs<A, D> as Epochs>⟧.states self epoch)
             → IfOk result (λ s. ⟦<DepotEpochs<A, D> as Epochs>⟧.states s epoch ≡ ⟦<DepotEpochs<A, D> as Epochs>⟧.states self epoch) }
-        ensures counts { CountsAt ⟦<DepotEpochs<A, D> as Epochs>⟧.failures ⟦<DepotEpochsWreck<A, D> as EpochsRuin>⟧.failures epoch ((⟦<DepotEpochs<A, D> as Epochs>⟧.failures self).archives epoch)
-            (⟦<DepotEpochs<A, D> as Epochs>⟧.failures self) result }
+        ensures counts { CountsAt ⟦<DepotEpochs<A, D> as Epochs>⟧.failures ⟦<DepotEpochsWreck<A, D> as EpochsRuin>⟧.failures epoch
+            ((⟦<DepotEpochs<A, D> as Epochs>⟧.failures self).archives epoch) (⟦<DepotEpochs<A, D> as Epochs>⟧.failures self) result }
         ensures calm { MatchResult result
             (λ s. ⟦<DepotEpochs<A, D> as Epochs>⟧.calm s ≡ ⟦<DepotEpochs<A, D> as Epochs>⟧.calm self)
             (λ l. ⟦<DepotEpochsWreck<A, D> as EpochsRuin>⟧.calm (wreck_of l) ≡ ⟦<DepotEpochs<A, D> as Epochs>⟧.calm self) }

@@ -102,10 +102,13 @@ impl<T: JournalItem, D: Disk> Archive<T> for JournalArchive<T, D> {
         ensures written { IfErr result (λ l. IfSome (journal_watch self.alarm.faults self.alarm.due.items).keeps
             (λ _. LeavesPut (λ w. left_of (archive_kept w.aside.gone.items w.pile.items.items w.pile.synced)) (λ w. false)
             (is_taken T.name (map seen self.entries.pile.items.items) (record { height = index; value = item }))
-            (left_of (archive_kept self.aside.gone.items self.entries.pile.items.items self.entries.pile.synced)) (record { height = index; value = item }) l)) }
+            (left_of (archive_kept self.aside.gone.items self.entries.pile.items.items self.entries.pile.synced))
+            (record { height = index; value = item }) l)) }
         ensures unchanged { is_taken T.name (map seen self.entries.pile.items.items) (record { height = index; value = item }) ≡ true → MatchResult result
-            (λ s. archive_kept s.aside.gone.items s.entries.pile.items.items s.entries.pile.synced ≡ archive_kept self.aside.gone.items self.entries.pile.items.items self.entries.pile.synced)
-            (λ l. Fails (left_of (archive_kept self.aside.gone.items self.entries.pile.items.items self.entries.pile.synced)) [] (left_of (archive_kept (wreck_of l).aside.gone.items (wreck_of l).pile.items.items (wreck_of l).pile.synced))) }
+            (λ s. archive_kept s.aside.gone.items s.entries.pile.items.items s.entries.pile.synced
+            ≡ archive_kept self.aside.gone.items self.entries.pile.items.items self.entries.pile.synced)
+            (λ l. Fails (left_of (archive_kept self.aside.gone.items self.entries.pile.items.items self.entries.pile.synced)) []
+            (left_of (archive_kept (wreck_of l).aside.gone.items (wreck_of l).pile.items.items (wreck_of l).pile.synced))) }
         ensures counted { MatchResult result (λ s. s.entries.pile.accepted ≤ self.entries.pile.accepted + 1)
             (λ l. (wreck_of l).pile.accepted ≤ self.entries.pile.accepted + 1) }
         ensures tickets { IfOk result (λ s. self.entries.pile.accepted ≤ s.entries.pile.accepted) }
@@ -258,7 +261,8 @@ impl<T: JournalItem, D: Disk> Archive<T> for JournalArchive<T, D> {
             (λ _. left_of (archive_kept (wreck_of l).aside.gone.items (wreck_of l).pile.items.items (wreck_of l).pile.synced)
             ≡ left_of (archive_kept self.aside.gone.items self.entries.pile.items.items self.entries.pile.synced))) }
         ensures exact { IfOk result (λ s. IfSome (journal_watch self.alarm.faults self.alarm.due.items).keeps
-            (λ _. archive_kept s.aside.gone.items s.entries.pile.items.items s.entries.pile.synced ≡ pruned_store min (archive_kept self.aside.gone.items self.entries.pile.items.items self.entries.pile.synced))) }
+            (λ _. archive_kept s.aside.gone.items s.entries.pile.items.items s.entries.pile.synced
+            ≡ pruned_store min (archive_kept self.aside.gone.items self.entries.pile.items.items self.entries.pile.synced))) }
         ensures counted { MatchResult result (λ s. s.entries.pile.accepted ≤ self.entries.pile.accepted + 1)
             (λ l. (wreck_of l).pile.accepted ≤ self.entries.pile.accepted + 1) }
         ensures tickets { IfOk result (λ s. self.entries.pile.accepted ≤ s.entries.pile.accepted) }

@@ -138,8 +138,10 @@ impl<T: JournalItem, D: Disk> JournalArchive<T, D> {
             (record { height = index; value = item } ∷ [])
             (left_of (archive_kept (wreck_of l).aside.gone.items (wreck_of l).pile.items.items (wreck_of l).pile.synced))) }
         ensures unchanged { is_taken T.name (map seen self.entries.pile.items.items) (record { height = index; value = item }) ≡ true → MatchResult result
-            (λ s. archive_kept s.aside.gone.items s.entries.pile.items.items s.entries.pile.synced ≡ archive_kept self.aside.gone.items self.entries.pile.items.items self.entries.pile.synced)
-            (λ l. Fails (left_of (archive_kept self.aside.gone.items self.entries.pile.items.items self.entries.pile.synced)) [] (left_of (archive_kept (wreck_of l).aside.gone.items (wreck_of l).pile.items.items (wreck_of l).pile.synced))) }
+            (λ s. archive_kept s.aside.gone.items s.entries.pile.items.items s.entries.pile.synced
+            ≡ archive_kept self.aside.gone.items self.entries.pile.items.items self.entries.pile.synced)
+            (λ l. Fails (left_of (archive_kept self.aside.gone.items self.entries.pile.items.items self.entries.pile.synced)) []
+            (left_of (archive_kept (wreck_of l).aside.gone.items (wreck_of l).pile.items.items (wreck_of l).pile.synced))) }
         ensures counted { MatchResult result (λ s. s.entries.pile.accepted ≤ self.entries.pile.accepted + 1)
             (λ l. (wreck_of l).pile.accepted ≤ self.entries.pile.accepted + 1) }
         ensures tickets { IfOk result (λ s. self.entries.pile.accepted ≤ s.entries.pile.accepted) }
